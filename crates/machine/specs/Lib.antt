@@ -1,0 +1,5 @@
+pub mod Meaning
+pub mod Runs
+pub mod Rows
+pub mod Lists
+pub mod Clauses

@@ -6,13 +6,29 @@ ghost use Rattle.refusal.specs.declared.faults.Refusal.the-variants.{Text, Doc
 mod faults;
 
 pub use faults::CertificateFault;
+pub use faults::CertificateFaultDebug;
+pub use faults::CertificateFaultPartialEq;
 pub use faults::CertificateRefusal;
+pub use faults::CertificateRefusalDebug;
+pub use faults::CertificateRefusalPartialEq;
 pub use faults::DocketFault;
+pub use faults::DocketFaultDebug;
+pub use faults::DocketFaultPartialEq;
 pub use faults::Layer;
+pub use faults::LayerDebug;
+pub use faults::LayerPartialEq;
 pub use faults::Refusal;
+pub use faults::RefusalDebug;
+pub use faults::RefusalPartialEq;
 pub use faults::TextFault;
+pub use faults::TextFaultDebug;
+pub use faults::TextFaultPartialEq;
 pub use faults::TextRefusal;
+pub use faults::TextRefusalDebug;
+pub use faults::TextRefusalPartialEq;
 pub use faults::Told;
+pub use faults::ToldDebug;
+pub use faults::ToldPartialEq;
 
 pub impl From<TextRefusal> for Refusal as RefusalFromText {
     ghost converts = { λ e r. r ≡ Text e };

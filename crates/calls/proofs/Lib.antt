@@ -1,0 +1,3 @@
+pub mod CutAt
+pub mod Words
+pub mod Blank

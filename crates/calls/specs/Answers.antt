@@ -1,0 +1,35 @@
+-- The text of each answer.
+use mathlib.Core.List.{List, _++_}
+use Prim.Native.Nat.{ℕ}
+use lib.Chars.{codes}
+use Rattle.std.specs.Written.{decimal}
+use Rattle.refusal.specs.declared.faults.Layer.{Layer}
+use Rattle.refusal.specs.declared.faults.Layer.the-variants as layer
+use Rattle.calls.specs.declared.answer.Counts.{Counts}
+use Rattle.calls.specs.declared.answer.Answer.{Answer}
+use Rattle.calls.specs.declared.answer.Answer.the-variants.{Opened, Lent, Broken, Refused, NoMachine, CannotRead, NotUnderstood}
+
+-- a layer by its name
+abbrev pub layer-text : Layer → List ℕ
+layer-text layer.Text = codes "text"
+layer-text layer.Docket = codes "docket"
+layer-text layer.Certificate = codes "certificate"
+layer-text layer.Refutation = codes "refutation"
+
+-- the counts of a machine
+abbrev pub counts-text : Counts → List ℕ
+counts-text c =
+    decimal (c .inputs) ++ (codes " inputs, " ++ (decimal (c .«state_bits») ++ (codes " state bits, " ++ (decimal (c .rules) ++ (codes " rules, "
+    ++ (decimal (c .variables) ++ (codes " variables, " ++ (decimal (c .clauses) ++ codes " clauses"))))))))
+
+-- each answer, with its numbers in decimal
+abbrev pub answer-text : Answer → List ℕ
+answer-text (Opened c) = codes "opened: " ++ counts-text c
+answer-text (Lent l) =
+    decimal (l .bytes) ++ (codes " bytes, " ++ (decimal (l .literals) ++ (codes " literals, " ++ (decimal (l .places) ++ codes " places"))))
+answer-text (Broken n) = codes "broken, " ++ (decimal n ++ codes " records")
+answer-text (Refused t) =
+    codes "refused " ++ (decimal (t .number) ++ (codes " " ++ (layer-text (t .layer) ++ (codes ", offset " ++ (decimal (t .offset) ++ (codes ", question " ++ decimal (t .question)))))))
+answer-text NoMachine = codes "no machine"
+answer-text (CannotRead file) = codes "cannot read " ++ file .now
+answer-text NotUnderstood = codes "not understood"

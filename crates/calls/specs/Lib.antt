@@ -1,0 +1,4 @@
+pub mod Answers
+pub mod Cuts
+pub mod Lines
+pub mod Text

@@ -1,0 +1,78 @@
+// What a call answers, as the program prints it.
+ghost use mathlib.Core.Path.{_≡_};
+ghost use Rattle.std.specs.declared.option.Option.the-variants.{Some};
+ghost use Rattle.calls.specs.Answers.{layer-text, counts-text, answer-text};
+use refusal::Layer;
+use refusal::Told;
+use std::fmt;
+
+// The counts of an opened machine.
+#[derive(Clone, Copy)]
+pub struct Counts {
+    pub inputs: usize,
+    pub state_bits: usize,
+    pub rules: usize,
+    pub variables: usize,
+    pub clauses: usize,
+}
+
+// The lengths of the work areas that calls are lent.
+#[derive(Clone, Copy)]
+pub struct Lengths {
+    pub bytes: u32,
+    pub literals: u32,
+    pub places: u32,
+}
+
+#[derive(Clone, Copy)]
+pub enum Answer<'a> {
+    Opened(Counts),
+    Lent(Lengths),
+    Broken { records: usize },
+    Refused(Told),
+    NoMachine,
+    CannotRead(&'a str),
+    NotUnderstood,
+}
+
+// A layer by its name.
+fn layer_name(layer: Layer) -> &'static str
+    ensures { λ r. ⌜ now r ≡ layer-text layer ⌝ }
+{
+    match layer {
+        Layer::Text => "text",
+        Layer::Docket => "docket",
+        Layer::Certificate => "certificate",
+        Layer::Refutation => "refutation",
+    }
+}
+
+pub impl fmt::Display for Counts as CountsDisplay {
+    ghost shown = { λ x. Some (counts-text x) };
+
+    fn fmt<W: fmt::Write>(&self, f: &mut fmt::Formatter<W>) -> fmt::Result {
+        let Counts { inputs, state_bits, rules, variables, clauses } = *self;
+        write!(f, "{inputs} inputs, {state_bits} state bits, {rules} rules, {variables} variables, {clauses} clauses")
+    }
+}
+
+pub impl fmt::Display for Answer<'_> as AnswerDisplay {
+    ghost shown = { λ x. Some (answer-text x) };
+
+    fn fmt<W: fmt::Write>(&self, f: &mut fmt::Formatter<W>) -> fmt::Result {
+        match self {
+            Answer::Opened(counts) => write!(f, "opened: {counts}"),
+            Answer::Lent(Lengths { bytes, literals, places }) => {
+                write!(f, "{bytes} bytes, {literals} literals, {places} places")
+            }
+            Answer::Broken { records } => write!(f, "broken, {records} records"),
+            Answer::Refused(Told { number, layer, offset, question }) => {
+                let layer = layer_name(*layer);
+                write!(f, "refused {number} {layer}, offset {offset}, question {question}")
+            }
+            Answer::NoMachine => write!(f, "no machine"),
+            Answer::CannotRead(file) => write!(f, "cannot read {file}"),
+            Answer::NotUnderstood => write!(f, "not understood"),
+        }
+    }
+}

@@ -1,5 +1,6 @@
 -- The text of each answer.
 use mathlib.Core.List.{List, _++_}
+use mathlib.Core.Bool.{Bool, true, false}
 use Prim.Native.Nat.{ℕ}
 use lib.Chars.{codes}
 use Rattle.std.specs.Written.{decimal}
@@ -33,3 +34,13 @@ answer-text (Refused t) =
 answer-text NoMachine = codes "no machine"
 answer-text (CannotRead file) = codes "cannot read " ++ file .now
 answer-text NotUnderstood = codes "not understood"
+
+-- whether the call was carried out: a refusal is an answer, too
+abbrev pub is-carried-out : Answer → Bool
+is-carried-out (Opened c) = true
+is-carried-out (Lent l) = true
+is-carried-out (Broken n) = true
+is-carried-out (Refused t) = true
+is-carried-out NoMachine = false
+is-carried-out (CannotRead file) = false
+is-carried-out NotUnderstood = false

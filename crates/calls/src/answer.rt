@@ -1,7 +1,7 @@
 // What a call answers, as the program prints it.
 ghost use mathlib.Core.Path.{_≡_};
 ghost use Rattle.std.specs.declared.option.Option.the-variants.{Some};
-ghost use Rattle.calls.specs.Answers.{layer-text, counts-text, answer-text};
+ghost use Rattle.calls.specs.Answers.{layer-text, counts-text, answer-text, is-carried-out};
 use refusal::Layer;
 use refusal::Told;
 use std::fmt;
@@ -33,6 +33,18 @@ pub enum Answer<'a> {
     NoMachine,
     CannotRead(&'a str),
     NotUnderstood,
+}
+
+impl Answer<'_> {
+    // Whether the call was carried out: a refusal is an answer, too.
+    pub fn carried_out(&self) -> bool
+        ensures { λ r. ⌜ r ≡ is-carried-out (now (self .entry)) ⌝ }
+    {
+        match self {
+            Answer::Opened(_) | Answer::Lent(_) | Answer::Broken { .. } | Answer::Refused(_) => true,
+            Answer::NoMachine | Answer::CannotRead(_) | Answer::NotUnderstood => false,
+        }
+    }
 }
 
 // A layer by its name.

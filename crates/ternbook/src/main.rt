@@ -1,0 +1,202 @@
+// The program: carries out calls, one a line, and prints each with its answer.
+use calls::Answer;
+use calls::AnswerDisplay;
+use calls::Call;
+use calls::Counts;
+use calls::is_passed_over;
+use calls::Lengths;
+use calls::Lines;
+use calls::parse;
+use certificate::replay;
+use circuit::Circuit;
+use circuit::CircuitMachine;
+use circuit::smallest;
+use circuit_text::read;
+use machine::Machine;
+use refusal::Refusal;
+use refusal::RefusalFromText;
+use std::env;
+use std::error::AnyError;
+use std::fs;
+use std::io::Read;
+use std::io::Write;
+
+// Next literals, outputs and operands of the largest admitted circuit: 2 * 16,383 + 32.
+const CIRCUIT_NUMBERS: usize = 32_798;
+
+// Lengths of the literal area and the place area until a line sets others.
+const LITERALS: u32 = 1_048_576;
+const PLACES: u32 = 65_536;
+
+// A line that opens a machine, and its file.
+#[derive(Clone, Copy)]
+struct Load<'a> {
+    line: &'a [u8],
+    file: &'a [u8],
+}
+
+// What the lines so far have left.
+#[derive(Drop)]
+struct Session<'a> {
+    lines: Lines<'a>,
+    lengths: Lengths,
+    all_carried_out: bool,
+}
+
+impl Session<'_> {
+    // Prints a line and its answer.
+    fn say(&mut self, rt: &LibcRuntime, line: &[u8], answer: Answer<'_>) -> Result<(), AnyError> {
+        if !answer.carried_out() {
+            self.all_carried_out = false;
+        }
+        rt.stdout().write_all(line)?;
+        println!(rt, " -> {answer}")?;
+        Ok(())
+    }
+}
+
+// The bytes of a file, or the answer that it cannot be read.
+fn contents<'a>(rt: &LibcRuntime, file: &'a [u8]) -> Result<Vec<u8>, Answer<'a>> {
+    let Ok(name) = std::str::from_utf8(file) else {
+        return Err(Answer::NotUnderstood);
+    };
+    match fs::read(rt, name) {
+        Ok(bytes) => Ok(bytes),
+        Err(_) => Err(Answer::CannotRead(name)),
+    }
+}
+
+// Checks the counterexample certificate that a file has.
+fn replay_file<'a, M: Machine>(
+    rt: &LibcRuntime,
+    machine: &M,
+    area: u32,
+    rule: u32,
+    file: &'a [u8],
+) -> Result<Answer<'a>, AnyError> {
+    let bytes = match contents(rt, file) {
+        Ok(bytes) => bytes,
+        Err(answer) => return Ok(answer),
+    };
+    let mut row = vec![in rt.alloc(); 0u8; area as usize]?;
+    match replay(machine, rule, &bytes, row.as_mut_slice()) {
+        Ok(records) => Ok(Answer::Broken { records }),
+        Err(refusal) => Ok(Answer::Refused(refusal.told())),
+    }
+}
+
+// Carries out lines until one opens a machine, or none is left.
+fn serve<'a, M: Machine>(
+    rt: &LibcRuntime,
+    session: &mut Session<'a>,
+    machine: Option<&M>,
+) -> Result<Option<Load<'a>>, AnyError> {
+    while let Some(line) = session.lines.next() {
+        if is_passed_over(line) {
+            continue;
+        }
+        let answer = match parse(line) {
+            Some(Call::Circuit { file }) => return Ok(Some(Load { line, file })),
+            Some(Call::Areas(lengths)) => {
+                session.lengths = lengths;
+                Answer::Lent(lengths)
+            }
+            Some(Call::Replay { rule, file }) => match machine {
+                Some(machine) => replay_file(rt, machine, session.lengths.bytes, rule, file)?,
+                None => Answer::NoMachine,
+            },
+            None => Answer::NotUnderstood,
+        };
+        session.say(rt, line, answer)?;
+    }
+    Ok(None)
+}
+
+// Sets a circuit to what a text has.
+fn read_circuit<'c>(circuit: &mut Circuit<'c>, text: &[u8], area: &'c mut [u32]) -> Result<(), Refusal> {
+    let header = read(text, area)?;
+    circuit.set(header, area)?;
+    Ok(())
+}
+
+// Opens the circuit that a file has, and carries out the lines after it.
+fn open_circuit<'a>(
+    rt: &LibcRuntime,
+    session: &mut Session<'a>,
+    load: Load<'a>,
+) -> Result<Option<Load<'a>>, AnyError> {
+    let text = match contents(rt, load.file) {
+        Ok(text) => text,
+        Err(answer) => {
+            session.say(rt, load.line, answer)?;
+            return serve::<CircuitMachine>(rt, session, None);
+        }
+    };
+    let mut area = vec![in rt.alloc(); 0u32; CIRCUIT_NUMBERS]?;
+    let mut circuit = smallest();
+    match read_circuit(&mut circuit, &text, area.as_mut_slice()) {
+        Ok(()) => {
+            session.lengths = Lengths { bytes: circuit.variables() as u32, literals: LITERALS, places: PLACES };
+            session.say(rt, load.line, Answer::Opened(counts(&circuit)))?;
+            serve(rt, session, Some(&circuit))
+        }
+        Err(refusal) => {
+            session.say(rt, load.line, Answer::Refused(refusal.told()))?;
+            serve::<CircuitMachine>(rt, session, None)
+        }
+    }
+}
+
+// The counts of a machine.
+fn counts<M: Machine>(machine: &M) -> Counts {
+    Counts {
+        inputs: machine.inputs(),
+        state_bits: machine.state_bits(),
+        rules: machine.rules(),
+        variables: machine.variables(),
+        clauses: machine.clauses(),
+    }
+}
+
+// Carries out every line of a text; false where one could not be carried out.
+fn carry_out(rt: &LibcRuntime, text: &[u8]) -> Result<bool, AnyError> {
+    let lengths = Lengths { bytes: 0, literals: LITERALS, places: PLACES };
+    let mut session = Session { lines: Lines::new(text), lengths, all_carried_out: true };
+    let mut next = serve::<CircuitMachine>(rt, &mut session, None)?;
+    // a line takes a byte at least, so there are no more loads than bytes
+    for _ in 0..text.len() {
+        let Some(load) = next else {
+            break;
+        };
+        next = open_circuit(rt, &mut session, load)?;
+    }
+    Ok(session.all_carried_out)
+}
+
+fn help(rt: &LibcRuntime) -> Result<(), AnyError> {
+    println!(rt, "usage: ternbook [FILE]")?;
+    println!(rt, "Carries out calls, one a line, from FILE or from standard input:")?;
+    println!(rt, "  circuit FILE      opens an ordered ASCII AIGER circuit")?;
+    println!(rt, "  areas B L P       lends areas of B bytes, L literals and P places")?;
+    println!(rt, "  replay R FILE     checks a counterexample certificate for rule R")?;
+    Ok(())
+}
+
+fn run(rt: &LibcRuntime) -> Result<(), AnyError> {
+    let mut args = env::args(rt)?;
+    let _ = args.next();
+    let mut text = Vec::new(rt.alloc());
+    if let Some(word) = args.next() {
+        if word.as_str() == "--help" {
+            return help(rt);
+        }
+        text = fs::read(rt, word.as_str())?;
+    } else {
+        rt.stdin().read_to_end(&mut text)?;
+    }
+    if carry_out(rt, &text)? { Ok(()) } else { Err("not every line was carried out".into()) }
+}
+
+fn main(rt: LibcRuntime) -> Result<(), AnyError> {
+    rt.report(run(&rt))
+}

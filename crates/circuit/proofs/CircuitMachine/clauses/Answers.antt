@@ -1,0 +1,6 @@
+use native.Mathlib.Omega.{arith}
+use Rattle.circuit.specs.Law.{clauses-count}
+use Rattle.circuit.proofs.CircuitMachine.clauses.Needs as need
+
+pub returns : need.returns
+returns c = let self = c .args .self .now in omega (arith, clauses-count (self .header) (self .area .now) (self .good) (self .whole))

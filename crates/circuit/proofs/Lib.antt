@@ -1,0 +1,4 @@
+mod Judged
+mod Parts
+mod GateClauses
+mod Filling

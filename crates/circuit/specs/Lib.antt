@@ -1,0 +1,3 @@
+pub mod Evaluation
+pub mod Admission
+pub mod Law

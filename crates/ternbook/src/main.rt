@@ -36,16 +36,17 @@ struct Load<'a> {
 }
 
 // What the lines so far have left.
-#[derive(Drop)]
-struct Session<'a> {
-    lines: Lines<'a>,
+#[derive(Clone, Copy)]
+struct Session {
     lengths: Lengths,
+    // whether a machine is open
+    open: bool,
     all_carried_out: bool,
 }
 
-impl Session<'_> {
+impl Session {
     // Prints a line and its answer.
-    fn say(&mut self, rt: &LibcRuntime, line: &[u8], answer: Answer<'_>) -> Result<(), AnyError> {
+    fn say(&mut self, rt: &LibcRuntime, line: &[u8], answer: &Answer<'_>) -> Result<(), AnyError> {
         if !answer.carried_out() {
             self.all_carried_out = false;
         }
@@ -66,6 +67,22 @@ fn contents<'a>(rt: &LibcRuntime, file: &'a [u8]) -> Result<Vec<u8>, Answer<'a>>
     }
 }
 
+// The answer to a call that opened a machine.
+fn opened<'a, M: Machine>(machine: &M) -> Answer<'a> {
+    Answer::Opened(Counts {
+        inputs: machine.inputs(),
+        state_bits: machine.state_bits(),
+        rules: machine.rules(),
+        variables: machine.variables(),
+        clauses: machine.clauses(),
+    })
+}
+
+// The answer to a call that was refused.
+fn refused<'a>(refusal: Refusal) -> Answer<'a> {
+    Answer::Refused(refusal.told())
+}
+
 // Checks the counterexample certificate that a file has.
 fn replay_file<'a, M: Machine>(
     rt: &LibcRuntime,
@@ -81,17 +98,18 @@ fn replay_file<'a, M: Machine>(
     let mut row = vec![in rt.alloc(); 0u8; area as usize]?;
     match replay(machine, rule, &bytes, row.as_mut_slice()) {
         Ok(records) => Ok(Answer::Broken { records }),
-        Err(refusal) => Ok(Answer::Refused(refusal.told())),
+        Err(refusal) => Ok(refused(refusal)),
     }
 }
 
-// Carries out lines until one opens a machine, or none is left.
+// Carries out lines until one opens a machine, or none is left; the machine is used only while one is open.
 fn serve<'a, M: Machine>(
     rt: &LibcRuntime,
-    session: &mut Session<'a>,
-    machine: Option<&M>,
+    lines: &mut Lines<'a>,
+    session: &mut Session,
+    machine: &M,
 ) -> Result<Option<Load<'a>>, AnyError> {
-    while let Some(line) = session.lines.next() {
+    while let Some(line) = lines.next() {
         if is_passed_over(line) {
             continue;
         }
@@ -101,15 +119,29 @@ fn serve<'a, M: Machine>(
                 session.lengths = lengths;
                 Answer::Lent(lengths)
             }
-            Some(Call::Replay { rule, file }) => match machine {
-                Some(machine) => replay_file(rt, machine, session.lengths.bytes, rule, file)?,
-                None => Answer::NoMachine,
-            },
+            Some(Call::Replay { rule, file }) => {
+                if session.open {
+                    replay_file(rt, machine, session.lengths.bytes, rule, file)?
+                } else {
+                    Answer::NoMachine
+                }
+            }
             None => Answer::NotUnderstood,
         };
-        session.say(rt, line, answer)?;
+        session.say(rt, line, &answer)?;
     }
     Ok(None)
+}
+
+// The same while no machine is open.
+fn serve_closed<'a>(
+    rt: &LibcRuntime,
+    lines: &mut Lines<'a>,
+    session: &mut Session,
+) -> Result<Option<Load<'a>>, AnyError> {
+    let unused: Circuit<'static> = smallest();
+    session.open = false;
+    serve(rt, lines, session, &unused)
 }
 
 // Sets a circuit to what a text has.
@@ -122,53 +154,45 @@ fn read_circuit<'c>(circuit: &mut Circuit<'c>, text: &[u8], area: &'c mut [u32])
 // Opens the circuit that a file has, and carries out the lines after it.
 fn open_circuit<'a>(
     rt: &LibcRuntime,
-    session: &mut Session<'a>,
+    lines: &mut Lines<'a>,
+    session: &mut Session,
     load: Load<'a>,
 ) -> Result<Option<Load<'a>>, AnyError> {
     let text = match contents(rt, load.file) {
         Ok(text) => text,
         Err(answer) => {
-            session.say(rt, load.line, answer)?;
-            return serve::<CircuitMachine>(rt, session, None);
+            session.say(rt, load.line, &answer)?;
+            return serve_closed(rt, lines, session);
         }
     };
     let mut area = vec![in rt.alloc(); 0u32; CIRCUIT_NUMBERS]?;
     let mut circuit = smallest();
     match read_circuit(&mut circuit, &text, area.as_mut_slice()) {
         Ok(()) => {
+            session.open = true;
             session.lengths = Lengths { bytes: circuit.variables() as u32, literals: LITERALS, places: PLACES };
-            session.say(rt, load.line, Answer::Opened(counts(&circuit)))?;
-            serve(rt, session, Some(&circuit))
+            session.say(rt, load.line, &opened(&circuit))?;
+            serve(rt, lines, session, &circuit)
         }
         Err(refusal) => {
-            session.say(rt, load.line, Answer::Refused(refusal.told()))?;
-            serve::<CircuitMachine>(rt, session, None)
+            session.say(rt, load.line, &refused(refusal))?;
+            serve_closed(rt, lines, session)
         }
-    }
-}
-
-// The counts of a machine.
-fn counts<M: Machine>(machine: &M) -> Counts {
-    Counts {
-        inputs: machine.inputs(),
-        state_bits: machine.state_bits(),
-        rules: machine.rules(),
-        variables: machine.variables(),
-        clauses: machine.clauses(),
     }
 }
 
 // Carries out every line of a text; false where one could not be carried out.
 fn carry_out(rt: &LibcRuntime, text: &[u8]) -> Result<bool, AnyError> {
     let lengths = Lengths { bytes: 0, literals: LITERALS, places: PLACES };
-    let mut session = Session { lines: Lines::new(text), lengths, all_carried_out: true };
-    let mut next = serve::<CircuitMachine>(rt, &mut session, None)?;
+    let mut session = Session { lengths, open: false, all_carried_out: true };
+    let mut lines = Lines::new(text);
+    let mut next = serve_closed(rt, &mut lines, &mut session)?;
     // a line takes a byte at least, so there are no more loads than bytes
     for _ in 0..text.len() {
         let Some(load) = next else {
             break;
         };
-        next = open_circuit(rt, &mut session, load)?;
+        next = open_circuit(rt, &mut lines, &mut session, load)?;
     }
     Ok(session.all_carried_out)
 }

@@ -1,0 +1,9 @@
+pub mod Codes
+pub mod Filling
+pub mod Laws
+pub mod Loop
+pub mod Answering
+pub mod Accepting
+pub mod Replaying
+pub mod Refusing
+pub mod Showing

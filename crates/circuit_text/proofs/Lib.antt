@@ -1,0 +1,10 @@
+pub mod Chains
+pub mod Places
+pub mod FieldsExact
+pub mod LinesExact
+pub mod Sections
+pub mod Texts
+pub mod SectionsExact
+pub mod HeaderExact
+pub mod TextExact
+pub mod GoodArea

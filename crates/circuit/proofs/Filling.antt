@@ -15,8 +15,8 @@ use Rattle.machine.specs.Rows.{Filled, bit, byte, bits, row-inputs, row-state}
 use Rattle.machine.proofs.RowBits.{bit-byte}
 use Rattle.aiger.specs.declared.header.Header.{Header}
 use Rattle.aiger.specs.Numbers.{Good, needed}
-use Rattle.circuit.specs.Evaluation.{operands, grow, meant}
-use Rattle.circuit.specs.Law.{operands-length, evaluated-fits}
+use Rattle.aiger.specs.Evaluation.{operands, grow, meant}
+use Rattle.aiger.proofs.Law.{operands-length, evaluated-fits}
 
 pub both-bytes : (p q : Bool) → bitAnd (byte p) (byte q) ≡ byte (p && q)
 both-bytes true true = refl

@@ -14,8 +14,8 @@ use Rattle.machine.specs.Lists.{entry}
 use Rattle.machine.proofs.Entries.{entry-at, entry-past}
 use Rattle.aiger.specs.declared.header.Header.{Header}
 use Rattle.aiger.specs.Numbers.{Good, needed}
-use Rattle.circuit.specs.Evaluation.{operands, two, clauses-of-gate, gate-clauses, meant}
-use Rattle.circuit.specs.Law.{operands-length, clauses-count}
+use Rattle.aiger.specs.Evaluation.{operands, two, clauses-of-gate, gate-clauses, meant}
+use Rattle.aiger.proofs.Law.{operands-length, clauses-count}
 
 pub two-less : (x y : ℕ) (r : List ℕ) → x < y → x ∷ y ∷ r ≡ two x y r
 two-less x y r h = sym (cond-true (ltb x y) (x ∷ y ∷ r) (cond (ltb y x) (y ∷ x ∷ r) (x ∷ r)) (lt-ltb x y h))

@@ -6,7 +6,7 @@ ghost use lib.ListN.{length, getD};
 ghost use Rattle.machine.specs.Clauses.{listed};
 ghost use Rattle.machine.specs.Meaning.{lit};
 ghost use Rattle.machine.specs.Rows.{bits, byte};
-ghost use Rattle.circuit.specs.Evaluation.{clauses-of-gate};
+ghost use Rattle.aiger.specs.Evaluation.{clauses-of-gate};
 use machine::Clause;
 use resolution::deny;
 

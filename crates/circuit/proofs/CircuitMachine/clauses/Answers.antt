@@ -1,5 +1,5 @@
 use native.Mathlib.Omega.{arith}
-use Rattle.circuit.specs.Law.{clauses-count}
+use Rattle.aiger.proofs.Law.{clauses-count}
 use Rattle.circuit.proofs.CircuitMachine.clauses.Needs as need
 
 pub returns : need.returns

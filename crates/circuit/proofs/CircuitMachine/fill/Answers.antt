@@ -8,8 +8,8 @@ use Rattle.std.proofs.shelf.Lists.{length-set, getD-drop, drop-set-lt}
 use Rattle.machine.specs.Meaning.{lit}
 use Rattle.machine.specs.Rows.{bits, byte}
 use Rattle.machine.proofs.RowBits.{lit-taken, byte-small}
-use Rattle.circuit.specs.Evaluation.{grow, operands}
-use Rattle.circuit.specs.Law.{operands-length}
+use Rattle.aiger.specs.Evaluation.{grow, operands}
+use Rattle.aiger.proofs.Law.{operands-length}
 use Rattle.circuit.proofs.Filling.{both-bytes, gate-more, small-more, small-first, filled}
 use Rattle.circuit.proofs.CircuitMachine.fill.Needs as need
 

@@ -2,7 +2,7 @@ use Prim.Native.Nat.{ℕ, _+_, _*_, _<_}
 use mathlib.Core.Path.{_≡_}
 use lib.ListN.{getD, take, drop}
 use Rattle.machine.specs.Rows.{bits}
-use Rattle.circuit.specs.Evaluation.{grow, operands}
+use Rattle.aiger.specs.Evaluation.{grow, operands}
 use Rattle.circuit.proofs.CircuitMachine.fill.Given as given
 
 -- the gates so far stand in the row, as 0 or 1, and what is beyond the variables stays

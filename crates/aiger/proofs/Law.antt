@@ -14,9 +14,9 @@ use Rattle.resolution.specs.Clauses.{literalTrue, denial, holds, Rising}
 use Rattle.resolution.proofs.Settings.{true-twice, true-twice-odd, denial-flips, denial-near}
 use Rattle.machine.specs.Meaning.{Lawful, Fits, lit, sat}
 use Rattle.machine.proofs.RowBits.{lit-front}
 use Rattle.aiger.specs.declared.header.Header.{Header}
 use Rattle.aiger.specs.Numbers.{Good, needed, gate-literal}
-use Rattle.circuit.specs.Evaluation.{operands, next-literals, rule-literals, grow, evaluated, two, gate-clauses, meant}
+use Rattle.aiger.specs.Evaluation.{operands, next-literals, rule-literals, grow, evaluated, two, gate-clauses, meant}
 
 -- operands in pairs, each a literal of a variable before its gate's, which is v for the first
 abbrev Ordered : ℕ → List ℕ → Type 0

@@ -19,10 +19,10 @@ needed h = h .latches + h .outputs + 2 * h .gates
 abbrev pub admitted : Header → ℕ → Result (Unit {0}) TextFault
 admitted h size =
     cond (eqb (h .maximum) (h .inputs + h .latches + h .gates))
-      (cond (leb (h .maximum) 16383 && (leb 1 (h .outputs) && leb (h .outputs) 32))
-        (cond (leb (needed h) size) (Ok tt) (Err ShortArea))
-        (Err Bounds))
-      (Err Sum)
+    (cond (leb (h .maximum) 16383 && (leb 1 (h .outputs) && leb (h .outputs) 32))
+    (cond (leb (needed h) size) (Ok tt) (Err ShortArea))
+    (Err Bounds))
+    (Err Sum)
 
 -- the same as a fact: all of them are answered yes
 abbrev pub Admitted : Header → ℕ → Type 0

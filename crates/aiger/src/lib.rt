@@ -6,6 +6,8 @@ use refusal::TextFault;
 mod header;
 
 pub use header::Header;
+pub use header::HeaderDebug;
+pub use header::HeaderPartialEq;
 
 impl Header {
     // Puts the questions on the header's numbers and on the length of the circuit area, in order.

@@ -58,10 +58,12 @@ rejoined s (x ∷ xs) h = ⊎-elim here (λ ne. later ne (λ g. rejoined s xs g)
   where
     both : {p q r t : List ℕ} → p ≡ r → q ≡ t → p ++ (s ∷ q) ≡ r ++ (s ∷ t)
     both e f = cc
+
     here : x ≡ s → x ∷ xs ≡ before s (x ∷ xs) ++ (s ∷ after s (x ∷ xs))
     here e =
         let t = eq-eqb x s e in
         ap (λ (y : ℕ). y ∷ xs) e ∙ sym (both (cond-true (eqb x s) [] (x ∷ before s xs) t) (cond-true (eqb x s) xs (after s xs) t))
+
     later : (x ≡ s → ⊥) → (0 < length (after s xs) → xs ≡ before s xs ++ (s ∷ after s xs)) → x ∷ xs ≡ before s (x ∷ xs) ++ (s ∷ after s (x ∷ xs))
     later ne ih =
         let t = ne-eqb x s ne in
@@ -76,6 +78,7 @@ whole-lacks s (x ∷ xs) h = ⊎-elim here (λ ne. later ne (λ g. whole-lacks s
   where
     here : x ≡ s → Lacks s (x ∷ xs)
     here q k l e = omega (arith, ap length (cond-true (eqb x s) [] (x ∷ before s xs) (eq-eqb x s q)))
+
     later : (x ≡ s → ⊥) → (length xs ≤ length (before s xs) → Lacks s xs) → Lacks s (x ∷ xs)
     later ne ih zero l e = ne e
     later ne ih (suc k) l e = ih (omega (arith, ap length (cond-false (eqb x s) [] (x ∷ before s xs) (ne-eqb x s ne)))) k (omega arith) e

@@ -41,7 +41,8 @@ impl Answer<'_> {
         ensures { λ r. ⌜ r ≡ is-carried-out (now (self .entry)) ⌝ }
     {
         match self {
-            Answer::Opened(_) | Answer::Lent(_) | Answer::Broken { .. } | Answer::Refused(_) => true,
+            Answer::Opened(_) | Answer::Lent(_) | Answer::Broken { .. } | Answer::Refused(_) =>
+                true,
             Answer::NoMachine | Answer::CannotRead(_) | Answer::NotUnderstood => false,
         }
     }
@@ -63,8 +64,17 @@ pub impl fmt::Display for Counts as CountsDisplay {
     ghost shown = { λ x. Some (counts-text x) };
 
     fn fmt<W: fmt::Write>(&self, f: &mut fmt::Formatter<W>) -> fmt::Result {
-        let Counts { inputs, state_bits, rules, variables, clauses } = *self;
-        write!(f, "{inputs} inputs, {state_bits} state bits, {rules} rules, {variables} variables, {clauses} clauses")
+        let Counts {
+            inputs,
+            state_bits,
+            rules,
+            variables,
+            clauses,
+        } = *self;
+        write!(
+            f,
+            "{inputs} inputs, {state_bits} state bits, {rules} rules, {variables} variables, {clauses} clauses"
+        )
     }
 }
 
@@ -74,13 +84,27 @@ pub impl fmt::Display for Answer<'_> as AnswerDisplay {
     fn fmt<W: fmt::Write>(&self, f: &mut fmt::Formatter<W>) -> fmt::Result {
         match self {
             Answer::Opened(counts) => write!(f, "opened: {counts}"),
-            Answer::Lent(Lengths { bytes, literals, places }) => {
-                write!(f, "{bytes} bytes, {literals} literals, {places} places")
-            }
+            Answer::Lent(
+                Lengths {
+                    bytes,
+                    literals,
+                    places,
+                },
+            ) => { write!(f, "{bytes} bytes, {literals} literals, {places} places") }
             Answer::Broken { records } => write!(f, "broken, {records} records"),
-            Answer::Refused(Told { number, layer, offset, question }) => {
+            Answer::Refused(
+                Told {
+                    number,
+                    layer,
+                    offset,
+                    question,
+                },
+            ) => {
                 let layer = layer_name(*layer);
-                write!(f, "refused {number} {layer}, offset {offset}, question {question}")
+                write!(
+                    f,
+                    "refused {number} {layer}, offset {offset}, question {question}"
+                )
             }
             Answer::NoMachine => write!(f, "no machine"),
             Answer::CannotRead(file) => write!(f, "cannot read {file}"),

@@ -11,5 +11,5 @@ pub use answer::Counts;
 pub use answer::Lengths;
 pub use call::Call;
 pub use lines::parse;
-pub use text::is_passed_over;
 pub use text::Lines;
+pub use text::is_passed_over;

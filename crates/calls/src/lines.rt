@@ -16,7 +16,11 @@ fn number_word(word: &[u8]) -> Option<u32>
     ensures { λ r. ⌜ BySome r ((n : ℕ) → n < 2 ^ 32 → now (word .entry) ≡ decimal n → ⊥) (λ n. now (word .entry) ≡ decimal n) ⌝ }
 {
     let (value, size) = number(word, 0)?;
-    if size == word.len() { Some(value) } else { None }
+    if size == word.len() {
+        Some(value)
+    } else {
+        None
+    }
 }
 
 // A file's name: a word that is not empty.
@@ -69,7 +73,10 @@ pub fn parse(line: &[u8]) -> Option<Call<'_>>
         Verb::Areas => Some(Call::Areas(lengths(rest)?)),
         Verb::Replay => {
             let (rule, file) = cut(rest, b' ');
-            Some(Call::Replay { rule: number_word(rule)?, file: name(file)? })
+            Some(Call::Replay {
+                rule: number_word(rule)?,
+                file: name(file)?,
+            })
         }
     }
 }

@@ -1,20 +1,18 @@
 -- A step goes exactly where every question at its record is answered yes.
-use mathlib.Core.Path.{_≡_, refl, sym, ap, subst, _∙_}
-use mathlib.Core.Bool.{Bool, true, false, cond}
-use mathlib.Core.List.{List, [], _∷_, _++_}
+use mathlib.Core.Path.{_≡_, refl, sym, subst}
+use mathlib.Core.Bool.{Bool, true, false}
+use mathlib.Core.List.{List}
 use mathlib.Core.Logic.{⊎-elim, _≢_}
-use Prim.Native.Nat.{ℕ, _+_, _-_, _<_, _≤_}
+use Prim.Native.Nat.{ℕ, _-_, _<_, _≤_}
 use native.Mathlib.Omega.{arith}
-use lib.Dec.{eqb, ltb, leb}
 use lib.ListN.{length}
 use Rattle.std.proofs.shelf.Tests.{cases-lt, cases-eq}
 use Rattle.std.proofs.shelf.Ways.{tells}
 use Rattle.std.specs.declared.result.Result.{Result}
 use Rattle.std.specs.declared.result.Result.the-variants.{Ok, Err}
 use Rattle.refusal.specs.declared.faults.CertificateFault.{CertificateFault}
-use Rattle.refusal.specs.declared.faults.CertificateFault.the-variants.{NoRecord, OutOfPlace, WrongNumber, Unbroken}
+use Rattle.refusal.specs.declared.faults.CertificateFault.the-variants.{OutOfPlace, WrongNumber}
 use Rattle.machine.specs.Meaning.{Meaning}
-use Rattle.machine.specs.Rows.{bit}
 use Rattle.certificate.specs.declared.record.Record.{Record}
 use Rattle.certificate.specs.declared.record.Record.the-variants.{Claim, Literal, ClauseEnd, FrameEnd, Take, Resolve, RefutationEnd, Bit, RowEnd, End}
 use Rattle.certificate.specs.Steps.{View, opening, in-row, closing, closed, claimed, bit-set, row-ended, step}

@@ -1,12 +1,11 @@
 -- What is read was written, and what is written is read.
 use mathlib.Core.Path.{_≡_, refl, sym, ap, subst, _∙_}
-use mathlib.Core.Bool.{Bool, true, false, cond, _&&_}
+use mathlib.Core.Bool.{Bool, true, false, cond}
 use mathlib.Core.List.{List, [], _∷_, _++_}
-use Prim.Native.Nat.{ℕ, suc, _+_, _*_, _/_, _%_, _<_, _≤_}
+use Prim.Native.Nat.{ℕ, _+_, _*_, _/_, _%_, _<_, _≤_}
 use native.Mathlib.Numerals.{add-one}
 use native.Mathlib.Omega.{arith}
 use lib.ListN.{length, getD, drop}
-use lib.Dec.{eqb, leb}
 use lib.Seq.{drop-cons}
 use Rattle.std.proofs.shelf.Lists.{length-append, getD-append-add}
 use Rattle.std.proofs.shelf.Ways.{tells}
@@ -15,7 +14,7 @@ use Rattle.std.specs.declared.option.Option.{Option}
 use Rattle.std.specs.declared.option.Option.the-variants.{Some, None}
 use Rattle.certificate.specs.declared.record.Record.{Record}
 use Rattle.certificate.specs.declared.record.Record.the-variants.{Claim, Literal, ClauseEnd, FrameEnd, Take, Resolve, RefutationEnd, Bit, RowEnd, End}
-use Rattle.certificate.specs.Records.{le32, encode, word, begins, read, record-of, left-of, Taken, Bytes}
+use Rattle.certificate.specs.Records.{le32, encode, word, begins, read, read-bare, record-of, left-of, Taken, Bytes}
 
 word-le32 : (w : ℕ) → w % 256 + (w / 256 % 256) * 256 + (w / 65536 % 256) * 65536 + (w / 16777216) * 16777216 ≡ w
 word-le32 w = omega arith
@@ -34,7 +33,7 @@ le32-word a b c d ha hb hc =
 
 -- what is written is read
 pub reads : (r : Record) (rest : List ℕ) → read (encode r ++ rest) ≡ Some (r, rest)
-unfolding read
+unfolding read read-bare
 reads (Claim k w) rest =
     let e : read (encode (Claim k w) ++ rest) ≡ Some (Claim k (word (encode (Claim k w) ++ rest) 2), rest) = grind (arith, tells) in
     e ∙ ap (λ (x : ℕ). Some (Claim k x, rest)) (word-le32 w)
@@ -93,6 +92,15 @@ one-word bs k h e =
 no-body : (bs : List ℕ) (k : ℕ) → begins bs k 1 ≡ true → bs ≡ k ∷ drop 1 bs
 no-body bs k e = let q = begun bs k 1 e in head bs k (q .0) (q .1)
 
+written-bare : (bs : List ℕ) → Written bs (read-bare bs)
+unfolding read-bare
+written-bare bs =
+    tower (Written bs) (begins bs 3 1) _ _ (no-body bs 3)
+    (tower (Written bs) (begins bs 4 1) _ _ (no-body bs 4)
+    (tower (Written bs) (begins bs 7 1) _ _ (no-body bs 7)
+    (tower (Written bs) (begins bs 9 1) _ _ (no-body bs 9)
+    (tower (Written bs) (begins bs 10 1) _ _ (no-body bs 10) tt))))
+
 written : (bs : List ℕ) → Bytes bs → Written bs (read bs)
 unfolding read
 written bs h =
@@ -100,19 +108,15 @@ written bs h =
     let q = begun bs 1 6 e in
     head bs 1 (omega arith) (q .1) ∙ ap (λ (x : List ℕ). 1 ∷ x) (byte-at bs 1 (omega arith) ∙ ap (λ (x : List ℕ). getD bs 1 0 ∷ x) (word-at bs 2 h (omega arith))))
     (tower (Written bs) (begins bs 2 5) _ _ (one-word bs 2 h)
-    (tower (Written bs) (begins bs 3 1) _ _ (no-body bs 3)
-    (tower (Written bs) (begins bs 4 1) _ _ (no-body bs 4)
     (tower (Written bs) (begins bs 5 5) _ _ (one-word bs 5 h)
     (tower (Written bs) (begins bs 6 13) _ _ (λ e.
     let q = begun bs 6 13 e in
     head bs 6 (omega arith) (q .1) ∙ ap (λ (x : List ℕ). 6 ∷ x)
     (word-at bs 1 h (omega arith) ∙ ap (λ (x : List ℕ). le32 (word bs 1) ++ x) (word-at bs 5 h (omega arith) ∙ ap (λ (x : List ℕ). le32 (word bs 5) ++ x) (word-at bs 9 h (omega arith)))))
-    (tower (Written bs) (begins bs 7 1) _ _ (no-body bs 7)
     (tower (Written bs) (begins bs 8 2) _ _ (λ e.
     let q = begun bs 8 2 e in
     head bs 8 (omega arith) (q .1) ∙ ap (λ (x : List ℕ). 8 ∷ x) (byte-at bs 1 (omega arith)))
-    (tower (Written bs) (begins bs 9 1) _ _ (no-body bs 9)
-    (tower (Written bs) (begins bs 10 1) _ _ (no-body bs 10) tt)))))))))
+    (written-bare bs)))))
 
 pub was-written : (bs : List ℕ) (r : Record) (after : List ℕ) → Bytes bs → read bs ≡ Some (r, after) → bs ≡ encode r ++ after
 was-written bs r after h e = subst (Written bs) e (written bs h)
@@ -124,7 +128,7 @@ none-written bs e q more w =
     let z : _≡_ {A = ℕ} 0 1 = cc in
     omega arith
 
-some-same : {X : Type 0} {x y : X} → _≡_ {A = Option X} (Some x) (Some y) → x ≡ y
+pub some-same : {X : Type 0} {x y : X} → _≡_ {A = Option X} (Some x) (Some y) → x ≡ y
 some-same e = cc
 
 pub some-written : (bs : List ℕ) (r : Record) (after : List ℕ) → Bytes bs → read bs ≡ Some (r, after) → Taken bs after (Some r)

@@ -1,37 +1,33 @@
 -- Rows in the byte area: single bytes, the parts they make, and the fit.
 use mathlib.Core.Path.{_≡_, refl, sym, ap, subst, _∙_}
 use mathlib.Core.Bool.{Bool, true, false}
-use mathlib.Core.List.{List, map}
-use mathlib.Core.Logic.{_≢_, ⊎-elim}
-use Prim.Native.Nat.{ℕ, _+_, _*_, _/_, _%_, _<_, _≤_}
+use mathlib.Core.List.{List}
+use mathlib.Core.Logic.{_≢_}
+use Prim.Native.Nat.{ℕ, _+_, _/_, _%_, _<_, _≤_}
 use native.Mathlib.Omega.{arith}
 use lib.ListN.{length, getD, set, take, drop}
 use mir.Val.{boolByte}
 use borrow.Author.Count.{below-more}
 use Rattle.std.proofs.shelf.Lists.{length-take, length-drop, length-map, getD-take, getD-drop, getD-map, getD-set-same, getD-set-other}
-use Rattle.std.proofs.shelf.Tests.{cases-eq}
 use Rattle.std.specs.Options.{isSome}
-use Rattle.std.specs.Results.{isOk}
 use Rattle.std.specs.declared.option.Option.{Option}
-use Rattle.std.specs.declared.option.Option.the-variants.{Some, None}
+use Rattle.std.specs.declared.option.Option.the-variants.{Some}
 use Rattle.std.specs.declared.result.Result.{Result}
-use Rattle.std.specs.declared.result.Result.the-variants.{Ok, Err}
+use Rattle.std.specs.declared.result.Result.the-variants.{Ok}
 use Rattle.refusal.specs.declared.faults.DocketFault.{DocketFault}
 use Rattle.resolution.specs.Clauses.{literalTrue}
 use Rattle.resolution.proofs.Settings.{true-same}
 use Rattle.machine.specs.Lists.{entry}
-use Rattle.machine.specs.Meaning.{Meaning, Fits, Lawful, lit}
-use Rattle.machine.specs.Rows.{bit, byte, bits, row-inputs, row-state, Fillable, Filled, Fill}
+use Rattle.machine.specs.Meaning.{Meaning, Lawful, lit}
+use Rattle.machine.specs.Rows.{bit, byte, bits, row-inputs, row-state, Filled, Fill}
 use Rattle.machine.proofs.Entries.{entry-at}
 use Rattle.machine.proofs.RowBits.{getD-bits, bits-from, part-bits, lit-taken, byte-small}
-use Rattle.certificate.specs.Area.{part, low, SmallState}
+use Rattle.certificate.specs.Area.{part, low}
+use Rattle.certificate.proofs.Codes.{some-same}
 
 -- below the length an entry is there, and it is what stands there
 pub there : {A : Type 0} (xs : List A) (i : ℕ) (d : A) (r : Option A) → i < length xs → r ≡ entry xs i → isSome r ≡ true
 there xs i d r l e = ap isSome (e ∙ entry-at xs i d l)
-
-some-same : {X : Type 0} {x y : X} → _≡_ {A = Option X} (Some x) (Some y) → x ≡ y
-some-same e = cc
 
 pub got : {A : Type 0} (xs : List A) (i : ℕ) (d : A) (r : Option A) (x : A) → i < length xs → r ≡ entry xs i → r ≡ Some x → x ≡ getD xs i d
 got xs i d r x l e f = some-same (sym f ∙ e ∙ entry-at xs i d l)

@@ -1,30 +1,24 @@
 -- What a record does at each phase, and what it leaves in the byte area.
-use mathlib.Core.Path.{_≡_, refl, sym, ap, _∙_}
-use mathlib.Core.Bool.{Bool, true, false, cond}
+use mathlib.Core.Path.{_≡_, sym, ap, _∙_}
+use mathlib.Core.Bool.{Bool, cond}
 use mathlib.Core.List.{List, [], _∷_, _++_}
 use mathlib.Core.Logic.{⊎-elim, _≢_}
 use Prim.Native.Nat.{ℕ, _+_, _-_, _<_, _≤_}
 use native.Mathlib.Omega.{arith}
-use lib.Dec.{ltb}
 use lib.ListN.{length, getD, set, take, drop}
 use Rattle.std.proofs.shelf.Lists.{length-take, length-drop, length-map, map-append, take-more-set, drop-set-add, drop-set-lt, getD-set-other}
-use Rattle.std.proofs.shelf.Tests.{cases-lt, lt-ltb, le-ltb}
+use Rattle.std.proofs.shelf.Tests.{cases-lt}
 use Rattle.std.proofs.shelf.Ways.{tells}
-use Rattle.std.specs.declared.result.Result.{Result}
 use Rattle.std.specs.declared.result.Result.the-variants.{Ok, Err}
-use Rattle.refusal.specs.declared.faults.CertificateFault.{CertificateFault}
 use Rattle.refusal.specs.declared.faults.CertificateFault.the-variants.{OutOfPlace, WrongNumber, Unbroken}
-use Rattle.machine.specs.Meaning.{Meaning, Lawful}
-use Rattle.machine.specs.Rows.{bit, bits, row-inputs, row-state, Fillable}
+use Rattle.machine.specs.Meaning.{Meaning}
+use Rattle.machine.specs.Rows.{bit, bits, Fillable}
 use Rattle.machine.proofs.RowBits.{part-bits}
 use Rattle.certificate.specs.declared.phase.Phase.{Phase}
-use Rattle.certificate.specs.declared.phase.Phase.the-variants.{Opening, Row, Closing, Closed}
 use Rattle.certificate.specs.declared.record.Record.{Record}
-use Rattle.certificate.specs.declared.record.Record.the-variants.{Claim, Literal, ClauseEnd, FrameEnd, Take, Resolve, RefutationEnd, Bit, RowEnd, End}
 use Rattle.certificate.specs.Area.{part, SmallInputs, SmallState}
-use Rattle.certificate.specs.Steps.{View, in-row, closing, bit-set, row-ended, claimed, step}
+use Rattle.certificate.specs.Steps.{in-row, closing, bit-set, row-ended, claimed, step}
 use Rattle.certificate.specs.Views.{view}
-use Rattle.certificate.proofs.Filling.{one-more}
 
 -- a bit
 pub bit-late : (m : Meaning) (b left : ℕ) (x s : List Bool) → m .inputs ≤ length x → bit-set m b left x s ≡ Err OutOfPlace

@@ -2,7 +2,7 @@
 use mathlib.Core.Path.{_≡_, refl, sym, ap, subst, _∙_}
 use mathlib.Core.List.{List}
 use mathlib.Core.Logic.{⊎-elim}
-use Prim.Native.Nat.{ℕ, suc, _+_, _<_, _≤_}
+use Prim.Native.Nat.{ℕ, suc, _<_, _≤_}
 use native.Mathlib.Nat.{zero-add}
 use native.Mathlib.Omega.{arith}
 use lib.ListN.{length}
@@ -16,7 +16,6 @@ use Rattle.refusal.specs.declared.faults.DocketFault.the-variants.{NoRule, Unfi
 use Rattle.refusal.specs.declared.faults.Refusal.{Refusal}
 use Rattle.refusal.specs.declared.faults.Refusal.the-variants.{Docket, Certificate}
 use Rattle.machine.specs.Meaning.{Meaning}
-use Rattle.certificate.specs.declared.record.Record.{Record}
 use Rattle.certificate.specs.Records.{encodes, Bytes}
 use Rattle.certificate.specs.Steps.{opening}
 use Rattle.certificate.specs.Verdict.{judged, admitted, carried, replayed}

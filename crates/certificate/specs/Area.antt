@@ -3,7 +3,6 @@ use mathlib.Core.List.{List}
 use mathlib.Core.Bool.{Bool}
 use Prim.Native.Nat.{ℕ, _+_, _%_, _<_}
 use lib.ListN.{getD, take, drop}
-use lib.Dec.{eqb}
 use Rattle.machine.specs.Meaning.{Meaning}
 use Rattle.machine.specs.Rows.{bit, bits}
 

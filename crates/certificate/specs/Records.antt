@@ -1,6 +1,6 @@
 -- Records as bytes: one byte of kind, then the body; numbers of several bytes have the lowest first.
 use mathlib.Core.Path.{_≡_}
-use mathlib.Core.Bool.{Bool, true, false, cond, _&&_}
+use mathlib.Core.Bool.{Bool, cond, _&&_}
 use mathlib.Core.List.{List, [], _∷_, _++_}
 use Prim.Native.Nat.{ℕ, _+_, _*_, _/_, _%_, _<_}
 use lib.ListN.{length, getD, drop}
@@ -41,19 +41,23 @@ word bs i = getD bs i 0 + getD bs (i + 1) 0 * 256 + getD bs (i + 2) 0 * 65536 + 
 abbrev pub begins : List ℕ → ℕ → ℕ → Bool
 begins bs kind size = leb size (length bs) && eqb (getD bs 0 0) kind
 
+-- the first record of the bytes where it has no body, with the bytes after it
+unfoldable pub read-bare : List ℕ → Option (Record × List ℕ)
+read-bare bs =
+    cond (begins bs 3 1) (Some (ClauseEnd, drop 1 bs))
+    (cond (begins bs 4 1) (Some (FrameEnd, drop 1 bs))
+    (cond (begins bs 7 1) (Some (RefutationEnd, drop 1 bs))
+    (cond (begins bs 9 1) (Some (RowEnd, drop 1 bs))
+    (cond (begins bs 10 1) (Some (End, drop 1 bs)) None))))
+
 -- the first record of the bytes, with the bytes after it
 unfoldable pub read : List ℕ → Option (Record × List ℕ)
 read bs =
     cond (begins bs 1 6) (Some (Claim (getD bs 1 0) (word bs 2), drop 6 bs))
     (cond (begins bs 2 5) (Some (Literal (word bs 1), drop 5 bs))
-    (cond (begins bs 3 1) (Some (ClauseEnd, drop 1 bs))
-    (cond (begins bs 4 1) (Some (FrameEnd, drop 1 bs))
     (cond (begins bs 5 5) (Some (Take (word bs 1), drop 5 bs))
     (cond (begins bs 6 13) (Some (Resolve (word bs 1) (word bs 5) (word bs 9), drop 13 bs))
-    (cond (begins bs 7 1) (Some (RefutationEnd, drop 1 bs))
-    (cond (begins bs 8 2) (Some (Bit (getD bs 1 0), drop 2 bs))
-    (cond (begins bs 9 1) (Some (RowEnd, drop 1 bs))
-    (cond (begins bs 10 1) (Some (End, drop 1 bs)) None)))))))))
+    (cond (begins bs 8 2) (Some (Bit (getD bs 1 0), drop 2 bs)) (read-bare bs)))))
 
 abbrev pub record-of : List ℕ → Option Record
 record-of bs = mapped (λ p. p .0) (read bs)

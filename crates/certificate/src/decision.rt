@@ -1,6 +1,6 @@
 // What a record does: the next phase, or the fault of the first question that is answered no.
 ghost use mathlib.Core.Path.{_≡_};
-ghost use Prim.Native.Nat.{ℕ, _+_, _<_, _≤_};
+ghost use Prim.Native.Nat.{_+_, _<_, _≤_};
 ghost use lib.Dec.{ltb};
 ghost use lib.ListN.{length};
 ghost use Rattle.machine.specs.Rows.{row-state, row-inputs, Fillable};
@@ -34,6 +34,7 @@ fn open<M: Machine>(
     })
 }
 
+// A bit is 0 or 1.
 fn is_bit(value: u8) -> bool
     ensures { λ r. ⌜ r ≡ ltb value 2 ⌝ }
 {

@@ -4,21 +4,36 @@ ghost use Prim.Native.Nat.{_+_};
 ghost use lib.Dec.{eqb};
 ghost use lib.ListN.{length};
 ghost use Rattle.std.specs.Options.{mapped};
-ghost use Rattle.certificate.specs.Records.{read, record-of, left-of, Taken, Bytes};
+ghost use Rattle.certificate.specs.Records.{read, read-bare, record-of, left-of, Taken, Bytes};
 use crate::Cursor;
 use crate::Record;
 
-// The first record of the bytes, and the bytes after it.
+// The first record of the bytes where it has no body, and the bytes after it.
+fn first_bare(bytes: &[u8]) -> Option<(Record, &[u8])>
+    ensures { λ r. ⌜ mapped (λ p. (p .0, now (p .1))) r ≡ read-bare (now (bytes .entry)) ⌝ }
+{
+    match bytes {
+        [3, rest @ ..] => Some((Record::ClauseEnd, rest)),
+        [4, rest @ ..] => Some((Record::FrameEnd, rest)),
+        [7, rest @ ..] => Some((Record::RefutationEnd, rest)),
+        [9, rest @ ..] => Some((Record::RowEnd, rest)),
+        [10, rest @ ..] => Some((Record::End, rest)),
+        _ => None,
+    }
+}
+
+// The first record of the bytes, and the bytes after it; every number in the slice is a byte, so that no two records are written alike.
 fn first(bytes: &[u8]) -> Option<(Record, &[u8])>
     ensures value { λ r. ⌜ mapped (λ p. (p .0, now (p .1))) r ≡ read (now (bytes .entry)) ⌝ }
     ensures bytes { λ _. ⌜ Bytes (now (bytes .entry)) ⌝ }
 {
     match bytes {
         [1, claim, a, b, c, d, rest @ ..] => {
+            let size = u32::from_le_bytes([*a, *b, *c, *d]);
             Some((
                 Record::Claim {
                     claim: *claim,
-                    size: u32::from_le_bytes([*a, *b, *c, *d]),
+                    size,
                 },
                 rest,
             ))
@@ -27,8 +42,6 @@ fn first(bytes: &[u8]) -> Option<(Record, &[u8])>
             Record::Literal(u32::from_le_bytes([*a, *b, *c, *d])),
             rest,
         )),
-        [3, rest @ ..] => Some((Record::ClauseEnd, rest)),
-        [4, rest @ ..] => Some((Record::FrameEnd, rest)),
         [5, a, b, c, d, rest @ ..] => Some((
             Record::Take(u32::from_le_bytes([*a, *b, *c, *d])),
             rest,
@@ -39,11 +52,8 @@ fn first(bytes: &[u8]) -> Option<(Record, &[u8])>
             let pivot = u32::from_le_bytes([*c0, *c1, *c2, *c3]);
             Some((Record::Resolve { left, right, pivot }, rest))
         }
-        [7, rest @ ..] => Some((Record::RefutationEnd, rest)),
         [8, bit, rest @ ..] => Some((Record::Bit(*bit), rest)),
-        [9, rest @ ..] => Some((Record::RowEnd, rest)),
-        [10, rest @ ..] => Some((Record::End, rest)),
-        _ => None,
+        _ => first_bare(bytes),
     }
 }
 

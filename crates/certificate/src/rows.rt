@@ -59,6 +59,7 @@ pub fn advance<M: Machine>(machine: &M, row: &mut [u8])
     ensures state { λ _. ⌜ row-state (meaning (now (machine .entry))) (now (row .exit)) ≡ meaning (now (machine .entry)) .step (row-state (meaning (now (machine .entry))) (now (row .entry))) (row-inputs (meaning (now (machine .entry))) (now (row .entry))) ⌝ }
     ensures small { λ _. ⌜ SmallState (meaning (now (machine .entry))) (now (row .exit)) ⌝ }
 {
+    // never refused: a byte for each variable is there, those of inputs and state are 0 or 1
     machine.fill(row).unwrap();
     mark_next(machine, row);
     shift_state(machine, row);
@@ -70,6 +71,7 @@ pub fn broken<M: Machine>(machine: &M, rule: u32, row: &mut [u8]) -> bool
     requires known { ⌜ rule < meaning (now machine) .rules ⌝ }
     ensures { λ r. ⌜ r ≡ meaning (now (machine .entry)) .broken rule (row-state (meaning (now (machine .entry))) (now (row .entry))) (row-inputs (meaning (now (machine .entry))) (now (row .entry))) ⌝ }
 {
+    // never refused: a byte for each variable is there, those of inputs and state are 0 or 1
     machine.fill(row).unwrap();
     let literal = machine.rule_literal(rule as usize).unwrap();
     value(row, literal)

@@ -1,20 +1,18 @@
 -- Fields are read exactly where they stand in the text.
-use Prim.Native.Nat.{ℕ, _+_, _-_, _^_, _≤_, _<_}
+use Prim.Native.Nat.{ℕ, _+_, _-_, _<_}
 use mathlib.Core.Path.{_≡_, refl, sym, _∙_, ap, subst}
 use mathlib.Core.Bool.{Bool, true, false, cond, _&&_}
-use mathlib.Core.Logic.{_⊎_, inl, inr}
 use mathlib.Core.List.{List, [], _∷_, _++_}
 use lib.ListN.{length, getD, drop}
 use lib.Dec.{eqb, ltb}
 use native.Mathlib.Omega.{arith}
 use native.Mathlib.Nat.{add-zero}
-use Rattle.std.proofs.shelf.Ways.{tells}
-use Rattle.std.proofs.shelf.Tests.{and-parts, and-from, ltb-true, eqb-true, lt-ltb, eq-eqb, cond-true, cases-bool, cond-false}
-use Rattle.std.proofs.shelf.Lists.{length-append, length-drop, getD-drop, drop-more, drop-drop, drop-at}
+use Rattle.std.proofs.shelf.Tests.{and-parts, and-from, ltb-true, eqb-true, lt-ltb, eq-eqb, cond-true}
+use Rattle.std.proofs.shelf.Lists.{length-drop, getD-drop, drop-more}
 use Rattle.std.specs.Written.{decimal}
 use Rattle.std.specs.declared.option.Option.{Option}
 use Rattle.std.specs.declared.option.Option.the-variants.{Some, None}
-use Rattle.decimal.specs.Number.{isDigit, numberOf, Stops, Number}
+use Rattle.decimal.specs.Number.{isDigit, numberOf, Stops}
 use Rattle.decimal.proofs.Exactness.{number-reads, number-written}
 use Rattle.circuit_text.specs.Chains.{andThen}
 use Rattle.circuit_text.specs.Fields.{afterByte, afterLine, numberAt, spacedAt}

@@ -1,8 +1,8 @@
 -- An area that holds a printed circuit meets the conditions on the numbers of a circuit.
-use Prim.Native.Nat.{ℕ, zero, suc, _+_, _-_, _*_, _≤_, _<_}
+use Prim.Native.Nat.{ℕ, zero, suc, _+_, _-_, _*_, _<_}
 use mathlib.Core.Path.{_≡_, refl, sym, _∙_, ap, subst}
 use mathlib.Core.List.{List, [], _∷_, _++_}
-use mathlib.Core.Logic.{_⊎_, inl, inr}
+use mathlib.Core.Logic.{inl, inr}
 use lib.ListN.{length, getD, replicate}
 use native.Mathlib.Omega.{arith}
 use Rattle.std.proofs.shelf.Lists.{append-assoc, getD-append-left, getD-append-add}
@@ -13,10 +13,10 @@ use Rattle.std.specs.declared.result.Result.{Result}
 use Rattle.std.specs.declared.result.Result.the-variants.{Ok, Err}
 use Rattle.refusal.specs.declared.faults.TextRefusal.{TextRefusal}
 use Rattle.aiger.specs.declared.header.Header.{Header}
-use Rattle.aiger.specs.Numbers.{needed, gate-literal, Heads, Gates, Good}
+use Rattle.aiger.specs.Numbers.{needed, Heads, Gates, Good}
 use Rattle.circuit_text.specs.declared.line.LineKind.{LineKind}
-use Rattle.circuit_text.specs.declared.line.LineKind.the-variants.{Input, Latch, Output, Gate}
-use Rattle.circuit_text.specs.Printed.{Entry, InRange, numbers, AllInRange, held, Prints}
+use Rattle.circuit_text.specs.declared.line.LineKind.the-variants.{Latch, Output, Gate}
+use Rattle.circuit_text.specs.Printed.{Entry, InRange, numbers, AllInRange, Prints}
 use Rattle.circuit_text.specs.Texts.{circuitOf, answerOf, areaOf}
 use Rattle.circuit_text.proofs.Chains.{carried-came}
 use Rattle.circuit_text.proofs.TextExact.{prints-read, read-prints}

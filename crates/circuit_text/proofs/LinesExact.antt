@@ -1,17 +1,14 @@
 -- Lines are read exactly where they stand in the text.
 use Prim.Native.Nat.{ℕ, _+_, _-_, _*_, _^_, _≤_, _<_}
-use mathlib.Core.Path.{_≡_, refl, sym, _∙_, ap, subst}
-use mathlib.Core.Bool.{Bool, true, false, cond, _&&_}
-use mathlib.Core.List.{List, [], _∷_, _++_}
+use mathlib.Core.Path.{_≡_, refl, _∙_, ap, subst}
+use mathlib.Core.List.{List, [], _∷_}
 use lib.ListN.{length}
-use lib.Dec.{eqb, ltb, leb}
 use native.Mathlib.Omega.{arith}
 use Rattle.std.proofs.shelf.Ways.{tells}
-use Rattle.std.specs.Written.{decimal}
 use Rattle.std.specs.declared.option.Option.{Option}
 use Rattle.std.specs.declared.option.Option.the-variants.{Some, None}
 use Rattle.std.specs.declared.result.Result.{Result}
-use Rattle.std.specs.declared.result.Result.the-variants.{Ok, Err}
+use Rattle.std.specs.declared.result.Result.the-variants.{Ok}
 use Rattle.refusal.specs.declared.faults.TextFault.{TextFault}
 use Rattle.aiger.specs.declared.header.Header.{Header}
 use Rattle.circuit_text.specs.declared.line.LineKind.{LineKind}
@@ -20,13 +17,13 @@ use Rattle.circuit_text.specs.declared.line.Line.{Line}
 use Rattle.circuit_text.specs.declared.line.Line.the-variants.{Input as InputLine, Latch as LatchLine, Output as OutputLine, Gate as GateLine}
 use Rattle.circuit_text.specs.declared.line.Kept.{Kept}
 use Rattle.circuit_text.specs.declared.line.Kept.the-variants.{Nothing, One, Two}
-use Rattle.circuit_text.specs.Chains.{andThen, carried}
-use Rattle.circuit_text.specs.Fields.{afterByte, afterLine, numberAt, spacedAt}
+use Rattle.circuit_text.specs.Chains.{carried}
+use Rattle.circuit_text.specs.Fields.{afterLine, numberAt, spacedAt}
 use Rattle.circuit_text.specs.Lines.{formAt, questioned, asked, lineAt}
-use Rattle.circuit_text.specs.Sections.{listed, width, lines-of}
+use Rattle.circuit_text.specs.Sections.{listed, width}
 use Rattle.circuit_text.specs.Printed.{line, Entry, line-of, InRange, numbers}
 use Rattle.circuit_text.proofs.Chains.{came, carried-came}
-use Rattle.circuit_text.proofs.Places.{Here, here-join, here-split}
+use Rattle.circuit_text.proofs.Places.{Here}
 use Rattle.circuit_text.proofs.FieldsExact.{first-in, spaced-in, end-in, first-out, spaced-out, end-out}
 
 -- a line of a kind with its numbers, and its bytes

@@ -1,11 +1,11 @@
 -- Bytes that stand in a text from one place to another.
-use Prim.Native.Nat.{ℕ, _+_, _-_, _≤_, _<_}
-use mathlib.Core.Path.{_≡_, refl, sym, _∙_, ap, subst}
-use mathlib.Core.List.{List, [], _∷_, _++_}
-use lib.ListN.{length, getD, drop}
+use Prim.Native.Nat.{ℕ, _+_, _-_}
+use mathlib.Core.Path.{_≡_, refl, sym, _∙_, ap}
+use mathlib.Core.List.{List, [], _++_}
+use lib.ListN.{length, drop}
 use native.Mathlib.Omega.{arith}
-use native.Mathlib.Nat.{add-zero, add-assoc}
-use Rattle.std.proofs.shelf.Lists.{append-assoc, length-append, length-drop, drop-drop, drop-at, getD-drop, drop-more}
+use native.Mathlib.Nat.{add-zero}
+use Rattle.std.proofs.shelf.Lists.{append-assoc, length-append, drop-drop, drop-at}
 
 -- `bytes` stand in the text from `at` to `end`
 pub record Here (text : List ℕ) (at : ℕ) (bytes : List ℕ) (end : ℕ) : Type 0 where

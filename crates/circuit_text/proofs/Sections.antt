@@ -1,8 +1,8 @@
 -- The lines of a section, one at a time.
-use Prim.Native.Nat.{ℕ, zero, suc, _+_, _-_, _*_, _≤_, _<_}
-use mathlib.Core.Path.{_≡_, refl, sym, _∙_, ap}
-use mathlib.Core.List.{List, [], _∷_, _++_}
-use lib.ListN.{length, take, drop}
+use Prim.Native.Nat.{ℕ, suc, _+_, _-_, _*_, _≤_, _<_}
+use mathlib.Core.Path.{_≡_, sym, _∙_, ap}
+use mathlib.Core.List.{List, [], _++_}
+use lib.ListN.{take, drop}
 use Rattle.std.proofs.shelf.Lists.{drop-drop}
 use Rattle.std.specs.Results.{Cases}
 use native.Mathlib.Omega.{arith}

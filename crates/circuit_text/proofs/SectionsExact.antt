@@ -1,5 +1,5 @@
 -- Sections are read exactly where they stand in the text.
-use Prim.Native.Nat.{ℕ, zero, suc, _+_, _-_, _*_, _^_, _≤_, _<_}
+use Prim.Native.Nat.{ℕ, zero, suc, _+_, _-_, _^_, _≤_, _<_}
 use mathlib.Core.Path.{_≡_, refl, sym, _∙_, ap, subst}
 use mathlib.Core.List.{List, [], _∷_, _++_}
 use lib.ListN.{length}
@@ -9,14 +9,12 @@ use Rattle.std.specs.shelf.Lists.{joined}
 use Rattle.std.specs.declared.result.Result.{Result}
 use Rattle.std.specs.declared.result.Result.the-variants.{Ok, Err}
 use Rattle.refusal.specs.declared.faults.TextFault.{TextFault}
-use Rattle.refusal.specs.declared.faults.TextRefusal.{TextRefusal}
 use Rattle.aiger.specs.declared.header.Header.{Header}
 use Rattle.circuit_text.specs.declared.line.LineKind.{LineKind}
-use Rattle.circuit_text.specs.declared.line.LineKind.the-variants.{Input, Latch, Output, Gate}
 use Rattle.circuit_text.specs.declared.line.Kept.{Kept}
 use Rattle.circuit_text.specs.Lines.{lineAt}
 use Rattle.circuit_text.specs.Sections.{listed, Read, linesOn}
-use Rattle.circuit_text.specs.Printed.{Entry, line-of, InRange, numbers, lines, AllInRange}
+use Rattle.circuit_text.specs.Printed.{Entry, line-of, numbers, lines, AllInRange}
 use Rattle.circuit_text.proofs.Places.{Here, here-none, here-join, here-split}
 use Rattle.circuit_text.proofs.LinesExact.{line-in, line-out}
 use Rattle.circuit_text.proofs.Sections.{after, lines-step}

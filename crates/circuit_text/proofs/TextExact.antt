@@ -1,21 +1,18 @@
 -- A text is accepted exactly when it begins with a printed circuit, and then the area holds that circuit.
-use Prim.Native.Nat.{ℕ, zero, suc, _+_, _-_, _*_, _^_, _≤_, _<_}
+use Prim.Native.Nat.{ℕ, _+_, _-_, _*_}
 use mathlib.Core.Path.{_≡_, refl, sym, _∙_, ap, subst}
 use mathlib.Core.List.{List, [], _∷_, _++_}
 use lib.ListN.{length, drop, replicate}
 use native.Mathlib.Omega.{arith}
-use Rattle.std.proofs.shelf.Lists.{append-assoc, append-nil, length-append, length-replicate}
+use Rattle.std.proofs.shelf.Lists.{append-assoc, length-append, length-replicate}
 use Rattle.std.specs.shelf.Lists.{joined}
-use Rattle.std.specs.declared.result.Result.{Result}
-use Rattle.std.specs.declared.result.Result.the-variants.{Ok, Err}
-use Rattle.refusal.specs.declared.faults.TextRefusal.{TextRefusal}
+use Rattle.std.specs.declared.result.Result.the-variants.{Ok}
 use Rattle.aiger.specs.declared.header.Header.{Header}
 use Rattle.aiger.specs.Numbers.{Admitted, needed}
 use Rattle.circuit_text.specs.declared.line.LineKind.{LineKind}
 use Rattle.circuit_text.specs.declared.line.LineKind.the-variants.{Input, Latch, Output, Gate}
-use Rattle.circuit_text.specs.Chains.{carried}
 use Rattle.circuit_text.specs.Sections.{Read, lines-of, linesOn, sectionOn, sectionsOn}
-use Rattle.circuit_text.specs.Printed.{Entry, numbers, lines, AllInRange, header-line, printed, held, Prints}
+use Rattle.circuit_text.specs.Printed.{Entry, numbers, lines, AllInRange, header-line, held, Prints}
 use Rattle.circuit_text.specs.Texts.{openingOf, circuitOf, answerOf, areaOf}
 use Rattle.circuit_text.proofs.Chains.{carried-came}
 use Rattle.circuit_text.proofs.Places.{Here, here-from, here-join, here-split}

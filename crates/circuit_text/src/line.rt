@@ -1,6 +1,8 @@
 // One line of a circuit's text, and the questions put to it.
 ghost use mathlib.Core.Path.{_≡_};
 ghost use Prim.Native.Nat.{_+_, _^_, _<_, _≤_};
+ghost use mathlib.Core.Bool.{cond};
+ghost use Rattle.std.specs.declared.result.Result.the-variants.{Ok, Err};
 ghost use Rattle.circuit_text.specs.Lines.{formAt, questioned, lineAt};
 use crate::fields;
 use aiger::Header;
@@ -51,6 +53,13 @@ fn in_form(text: &[u8], at: usize, kind: LineKind) -> Option<(Line, usize)>
     }
 }
 
+// Goes on where the answer to a question is yes.
+fn ask(answer: bool, fault: TextFault) -> Result<(), TextFault>
+    ensures { λ r. ⌜ r ≡ cond answer (Ok tt) (Err fault) ⌝ }
+{
+    if answer { Ok(()) } else { Err(fault) }
+}
+
 impl Line {
     // The questions on the numbers of line `index`, counted from 0 among those of its kind.
     fn question(self, header: &Header, index: u32) -> Result<Kept, TextFault>
@@ -60,33 +69,24 @@ impl Line {
         let greatest = 2 * header.maximum + 1;
         match self {
             Line::Input(literal) => {
-                if literal != 2 * (1 + index) {
-                    return Err(TextFault::FirstNumber);
-                }
+                ask(literal == 2 * (1 + index), TextFault::FirstNumber)?;
                 Ok(Kept::Nothing)
             }
             Line::Latch(literal, next) => {
-                if literal != 2 * (1 + header.inputs + index) {
-                    return Err(TextFault::FirstNumber);
-                }
-                if next > greatest {
-                    return Err(TextFault::Literal);
-                }
+                let own = 2 * (1 + header.inputs + index);
+                ask(literal == own, TextFault::FirstNumber)?;
+                ask(next <= greatest, TextFault::Literal)?;
                 Ok(Kept::One(next))
             }
             Line::Output(literal) => {
-                if literal > greatest {
-                    return Err(TextFault::Literal);
-                }
+                ask(literal <= greatest, TextFault::Literal)?;
                 Ok(Kept::One(literal))
             }
             Line::Gate(gate, a, b) => {
-                if gate != 2 * (1 + header.inputs + header.latches + index) {
-                    return Err(TextFault::FirstNumber);
-                }
-                if a >= gate || b > a {
-                    return Err(TextFault::Literal);
-                }
+                let own = 2 * (1 + header.inputs + header.latches + index);
+                ask(gate == own, TextFault::FirstNumber)?;
+                ask(a < gate, TextFault::Literal)?;
+                ask(b <= a, TextFault::Literal)?;
                 Ok(Kept::Two(a, b))
             }
         }

@@ -1,16 +1,14 @@
 -- The digits that a text begins with, a byte at a time.
-use Prim.Native.Nat.{ℕ, suc, _+_, _-_, _*_, _^_, _≤_, _<_}
-use mathlib.Core.Path.{_≡_, refl, sym, _∙_, ap}
-use mathlib.Core.Bool.{Bool, true, false, cond}
+use Prim.Native.Nat.{ℕ, _+_, _-_, _*_, _^_, _≤_, _<_}
+use mathlib.Core.Path.{_≡_, sym, _∙_, ap}
 use mathlib.Core.List.{List, [], _∷_}
 use lib.ListN.{length, getD, drop}
 use native.Mathlib.Omega.{arith}
 use Rattle.std.proofs.shelf.Ways.{tells}
 use Rattle.std.proofs.shelf.Tests.{le-ltb, lt-ltb, cond-true, cond-false}
 use Rattle.std.proofs.shelf.Lists.{drop-more, drop-all}
-use Rattle.std.specs.declared.option.Option.{Option}
 use Rattle.std.specs.declared.option.Option.the-variants.{Some, None}
-use Rattle.decimal.specs.Number.{isDigit, leading, valueOn, fitting}
+use Rattle.decimal.specs.Number.{leading, valueOn, fitting}
 
 digit-here : (c : ℕ) (cs : List ℕ) → 48 ≤ c → c ≤ 57 → leading (c ∷ cs) ≡ c ∷ leading cs
 digit-here c cs lo hi = grind (arith, tells)

@@ -20,7 +20,10 @@ impl Clause {
     pub fn empty() -> Clause
         ensures { λ r. ⌜ listed r ≡ [] ⌝ }
     {
-        Clause { literals: [0; 16], length: 0 }
+        Clause {
+            literals: [0; 16],
+            length: 0,
+        }
     }
 
     // One literal more at the end; false, and unchanged, where 16 stand.

@@ -6,5 +6,9 @@ ghost use Rattle.resolution.specs.Clauses.{denial};
 pub fn deny(literal: u32) -> u32
     ensures { λ r. ⌜ r ≡ denial literal ⌝ }
 {
-    if literal % 2 == 0 { literal + 1 } else { literal - 1 }
+    if literal % 2 == 0 {
+        literal + 1
+    } else {
+        literal - 1
+    }
 }

@@ -3,9 +3,9 @@ use calls::Answer;
 use calls::AnswerDisplay;
 use calls::Call;
 use calls::Counts;
-use calls::is_passed_over;
 use calls::Lengths;
 use calls::Lines;
+use calls::is_passed_over;
 use calls::parse;
 use certificate::replay;
 use circuit::Circuit;
@@ -26,6 +26,7 @@ const CIRCUIT_NUMBERS: usize = 32_798;
 
 // Lengths of the literal area and the place area until a line sets others.
 const LITERALS: u32 = 1_048_576;
+
 const PLACES: u32 = 65_536;
 
 // A line that opens a machine, and its file.
@@ -145,7 +146,11 @@ fn serve_closed<'a>(
 }
 
 // Sets a circuit to what a text has.
-fn read_circuit<'c>(circuit: &mut Circuit<'c>, text: &[u8], area: &'c mut [u32]) -> Result<(), Refusal> {
+fn read_circuit<'c>(
+    circuit: &mut Circuit<'c>,
+    text: &[u8],
+    area: &'c mut [u32],
+) -> Result<(), Refusal> {
     let header = read(text, area)?;
     circuit.set(header, area)?;
     Ok(())
@@ -170,7 +175,11 @@ fn open_circuit<'a>(
     match read_circuit(&mut circuit, &text, area.as_mut_slice()) {
         Ok(()) => {
             session.open = true;
-            session.lengths = Lengths { bytes: circuit.variables() as u32, literals: LITERALS, places: PLACES };
+            session.lengths = Lengths {
+                bytes: circuit.variables() as u32,
+                literals: LITERALS,
+                places: PLACES,
+            };
             session.say(rt, load.line, &opened(&circuit))?;
             serve(rt, lines, session, &circuit)
         }
@@ -183,8 +192,16 @@ fn open_circuit<'a>(
 
 // Carries out every line of a text; false where one could not be carried out.
 fn carry_out(rt: &LibcRuntime, text: &[u8]) -> Result<bool, AnyError> {
-    let lengths = Lengths { bytes: 0, literals: LITERALS, places: PLACES };
-    let mut session = Session { lengths, open: false, all_carried_out: true };
+    let lengths = Lengths {
+        bytes: 0,
+        literals: LITERALS,
+        places: PLACES,
+    };
+    let mut session = Session {
+        lengths,
+        open: false,
+        all_carried_out: true,
+    };
     let mut lines = Lines::new(text);
     let mut next = serve_closed(rt, &mut lines, &mut session)?;
     // a line takes a byte at least, so there are no more loads than bytes
@@ -199,10 +216,22 @@ fn carry_out(rt: &LibcRuntime, text: &[u8]) -> Result<bool, AnyError> {
 
 fn help(rt: &LibcRuntime) -> Result<(), AnyError> {
     println!(rt, "usage: ternbook [FILE]")?;
-    println!(rt, "Carries out calls, one a line, from FILE or from standard input:")?;
-    println!(rt, "  circuit FILE      opens an ordered ASCII AIGER circuit")?;
-    println!(rt, "  areas B L P       lends areas of B bytes, L literals and P places")?;
-    println!(rt, "  replay R FILE     checks a counterexample certificate for rule R")?;
+    println!(
+        rt,
+        "Carries out calls, one a line, from FILE or from standard input:"
+    )?;
+    println!(
+        rt,
+        "  circuit FILE      opens an ordered ASCII AIGER circuit"
+    )?;
+    println!(
+        rt,
+        "  areas B L P       lends areas of B bytes, L literals and P places"
+    )?;
+    println!(
+        rt,
+        "  replay R FILE     checks a counterexample certificate for rule R"
+    )?;
     Ok(())
 }
 
@@ -218,7 +247,11 @@ fn run(rt: &LibcRuntime) -> Result<(), AnyError> {
     } else {
         rt.stdin().read_to_end(&mut text)?;
     }
-    if carry_out(rt, &text)? { Ok(()) } else { Err("not every line was carried out".into()) }
+    if carry_out(rt, &text)? {
+        Ok(())
+    } else {
+        Err("not every line was carried out".into())
+    }
 }
 
 fn main(rt: LibcRuntime) -> Result<(), AnyError> {

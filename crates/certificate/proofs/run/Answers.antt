@@ -1,17 +1,16 @@
-use mathlib.Core.Path.{_≡_, refl, sym, ap, subst, _∙_}
+use mathlib.Core.Path.{_≡_, sym, ap, _∙_}
 use mathlib.Core.List.{List}
 use Prim.Native.Nat.{ℕ, _<_}
-use native.Mathlib.Omega.{arith}
 use denote.Ref.{now}
 use lib.ListN.{length}
 use Rattle.std.specs.declared.option.Option.the-variants.{Some}
-use Rattle.std.specs.declared.result.Result.the-variants.{Ok, Err}
+use Rattle.std.specs.declared.result.Result.the-variants.{Err}
 use Rattle.refusal.specs.declared.faults.CertificateFault.the-variants.{NoRecord}
 use Rattle.certificate.specs.Records.{read}
 use Rattle.certificate.specs.Verdict.{at-offset}
 use Rattle.certificate.specs.Views.{view}
 use Rattle.certificate.proofs.Codes.{read-some, read-none, longer}
-use Rattle.certificate.proofs.Loop.{Going, going-none, going-more, out-none, out-stop, out-end}
+use Rattle.certificate.proofs.Loop.{going-none, going-more, out-none, out-stop, out-end}
 use Rattle.certificate.proofs.run.Needs as need
 
 pub loop-phase-holds : need.loop-phase-holds

@@ -7,7 +7,7 @@ use Rattle.calls.proofs.lines.number_word.Needs as need
 pub returns-in-Break-value : need.returns-in-Break-value
 returns-in-Break-value c =
     rw (c .from-residual .ensures) (λ n h e.
-      no-answer (c .number .ensures .reads n (length (decimal n)) (number-whole (c .args .word .now) n h e)) (c .in-Break-value .was tt))
+    no-answer (c .number .ensures .reads n (length (decimal n)) (number-whole (c .args .word .now) n h e)) (c .in-Break-value .was tt))
 
 pub returns-then-size-word : need.returns-then-size-word
 returns-then-size-word c =

@@ -18,14 +18,14 @@ returns-in-Break-number-word c =
     let word = sym (c .cut .ensures .front) ∙ c .in-Continue-verb .ensures tt ∙ ap verb-text (c .in-Replay .is) in
     rw (c .from-residual-in-Break-number-word .ensures)
     (no-replay (c .args .line .now) word
-      (λ rule file small name n f. c .in-Break-number-word .ensures tt rule small (c .cut-in-Replay .ensures .front ∙ ap (before 32) (c .cut .ensures .back) ∙ n)))
+    (λ rule file small name n f. c .in-Break-number-word .ensures tt rule small (c .cut-in-Replay .ensures .front ∙ ap (before 32) (c .cut .ensures .back) ∙ n)))
 
 pub returns-in-Break-name-2 : need.returns-in-Break-name-2
 returns-in-Break-name-2 c =
     let word = sym (c .cut .ensures .front) ∙ c .in-Continue-verb .ensures tt ∙ ap verb-text (c .in-Replay .is) in
     rw (c .from-residual-in-Break-name-2 .ensures)
     (no-replay (c .args .line .now) word
-      (λ rule file small name n f. c .in-Break-name-2 .ensures tt (subst Name (sym (c .cut-in-Replay .ensures .back ∙ ap (after 32) (c .cut .ensures .back) ∙ f)) name)))
+    (λ rule file small name n f. c .in-Break-name-2 .ensures tt (subst Name (sym (c .cut-in-Replay .ensures .back ∙ ap (after 32) (c .cut .ensures .back) ∙ f)) name)))
 
 pub returns-in-Continue-name : need.returns-in-Continue-name
 returns-in-Continue-name c =
@@ -45,8 +45,9 @@ pub returns-in-Continue-name-2 : need.returns-in-Continue-name-2
 returns-in-Continue-name-2 c =
     let word = sym (c .cut .ensures .front) ∙ c .in-Continue-verb .ensures tt ∙ ap verb-text (c .in-Replay .is) in
     let file = c .in-Continue-name-2 .ensures tt in
-    let name : Name (c .in-Continue-name-2 .field-0 .now) = subst Name (sym (file .0)) (file .1) in
-    ((omega arith, name),
-     is-replay (c .args .line .now) (c .in-Continue-number-word .field-0) (c .in-Continue-name-2 .field-0 .now) word
-     (ap (before 32) (sym (c .cut .ensures .back)) ∙ sym (c .cut-in-Replay .ensures .front) ∙ c .in-Continue-number-word .ensures tt)
-     (ap (after 32) (sym (c .cut .ensures .back)) ∙ sym (c .cut-in-Replay .ensures .back) ∙ sym (file .0)) (name .0))
+    let name : Name (c .in-Continue-name-2 .field-0 .now) = subst Name (sym (file .0)) (file .1) in (
+      (omega arith, name),
+      is-replay (c .args .line .now) (c .in-Continue-number-word .field-0) (c .in-Continue-name-2 .field-0 .now) word
+          (ap (before 32) (sym (c .cut .ensures .back)) ∙ sym (c .cut-in-Replay .ensures .front) ∙ c .in-Continue-number-word .ensures tt)
+          (ap (after 32) (sym (c .cut .ensures .back)) ∙ sym (c .cut-in-Replay .ensures .back) ∙ sym (file .0)) (name .0),
+    )

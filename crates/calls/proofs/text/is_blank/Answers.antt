@@ -13,8 +13,9 @@ returns-then-byte-ne9 c =
 pub loop-byte-again : need.loop-byte-again
 loop-byte-again c =
     elim (c .else-byte-ne32 .came) [
-        else-byte-ne32·by·then-byte-ne32·else-byte-ne9 w ↦ tab-here (c .args .line .now) (c .loop-byte .byte-index) (c .loop-byte-test .taken) (w .if-byte-ne9 .left) ∙ c .loop-byte .inv
-      | else-byte-ne32·by·else-byte-ne32 w ↦ space-here (c .args .line .now) (c .loop-byte .byte-index) (c .loop-byte-test .taken) (w .if-byte-ne32 .left) ∙ c .loop-byte .inv ]
+      | else-byte-ne32·by·then-byte-ne32·else-byte-ne9 w ↦ tab-here (c .args .line .now) (c .loop-byte .byte-index) (c .loop-byte-test .taken) (w .if-byte-ne9 .left) ∙ c .loop-byte .inv
+      | else-byte-ne32·by·else-byte-ne32 w ↦ space-here (c .args .line .now) (c .loop-byte .byte-index) (c .loop-byte-test .taken) (w .if-byte-ne32 .left) ∙ c .loop-byte .inv
+    ]
 
 pub returns : need.returns
 returns c = sym (at-drop-all blank (c .args .line .now) (c .loop-byte .byte-index) (c .loop-byte-test .left)) ∙ c .loop-byte .inv

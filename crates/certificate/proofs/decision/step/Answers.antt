@@ -1,4 +1,4 @@
-use mathlib.Core.Path.{_≡_, sym, ap, subst, _∙_}
+use mathlib.Core.Path.{sym, subst, _∙_}
 use native.Mathlib.Omega.{arith}
 use Rattle.machine.specs.Rows.{row-state}
 use Rattle.certificate.specs.declared.phase.Phase.the-variants.{Row}

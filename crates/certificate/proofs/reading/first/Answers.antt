@@ -1,8 +1,9 @@
 use borrow.Author.Needs.{needs}
+use mathlib.Core.Path.{_≡_, sym, _∙_}
 use native.Mathlib.Omega.{arith}
 use Rattle.std.proofs.shelf.Lists.{take-rest}
 use Rattle.std.proofs.shelf.Ways.{tells}
-use Rattle.certificate.specs.Records.{read}
+use Rattle.certificate.specs.Records.{read, read-bare}
 use Rattle.certificate.proofs.reading.first.Needs as need
 
 pub returns-in-1 : need.returns-in-1
@@ -13,14 +14,6 @@ pub returns-in-2 : need.returns-in-2
 unfolding read
 returns-in-2 c = record { value = simp take-rest (search needs); bytes = λ i. let t = c .typed .bytes i in omega arith }
 
-pub returns-in-3 : need.returns-in-3
-unfolding read
-returns-in-3 c = record { value = simp take-rest (search needs); bytes = λ i. let t = c .typed .bytes i in omega arith }
-
-pub returns-in-4 : need.returns-in-4
-unfolding read
-returns-in-4 c = record { value = simp take-rest (search needs); bytes = λ i. let t = c .typed .bytes i in omega arith }
-
 pub returns-in-5 : need.returns-in-5
 unfolding read
 returns-in-5 c = record { value = simp take-rest (search needs); bytes = λ i. let t = c .typed .bytes i in omega arith }
@@ -29,22 +22,12 @@ pub returns-in-6 : need.returns-in-6
 unfolding read
 returns-in-6 c = record { value = simp take-rest (search needs); bytes = λ i. let t = c .typed .bytes i in omega arith }
 
-pub returns-in-7 : need.returns-in-7
-unfolding read
-returns-in-7 c = record { value = simp take-rest (search needs); bytes = λ i. let t = c .typed .bytes i in omega arith }
-
 pub returns-in-8 : need.returns-in-8
 unfolding read
 returns-in-8 c = record { value = simp take-rest (search needs); bytes = λ i. let t = c .typed .bytes i in omega arith }
 
-pub returns-in-9 : need.returns-in-9
-unfolding read
-returns-in-9 c = record { value = simp take-rest (search needs); bytes = λ i. let t = c .typed .bytes i in omega arith }
-
-pub returns-in-10 : need.returns-in-10
-unfolding read
-returns-in-10 c = record { value = simp take-rest (search needs); bytes = λ i. let t = c .typed .bytes i in omega arith }
-
 pub returns-in-rest : need.returns-in-rest
 unfolding read
-returns-in-rest c = record { value = grind (arith, tells); bytes = λ i. let t = c .typed .bytes i in omega arith }
+returns-in-rest c =
+    let e : read (c .args .bytes .now) ≡ read-bare (c .args .bytes .now) = grind (arith, tells) in
+    record { value = c .first-bare .ensures ∙ sym e; bytes = λ i. let t = c .typed .bytes i in omega arith }

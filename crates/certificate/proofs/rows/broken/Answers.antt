@@ -1,7 +1,6 @@
-use mathlib.Core.Path.{_≡_, ap, _∙_}
-use Prim.Native.Nat.{ℕ, _/_, _<_}
+use mathlib.Core.Path.{ap, _∙_}
+use Prim.Native.Nat.{_/_, _<_}
 use native.Mathlib.Omega.{arith}
-use lib.ListN.{getD}
 use Rattle.machine.specs.Meaning.{lit}
 use Rattle.machine.specs.Rows.{bits}
 use Rattle.certificate.proofs.Filling.{there, got, low-lit, small-low, was-filled, rule-is}

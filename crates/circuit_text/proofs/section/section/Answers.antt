@@ -1,12 +1,10 @@
 use native.Mathlib.Omega.{arith}
-use Prim.Native.Nat.{ℕ, suc, _+_, _-_, _*_, _≤_, _<_}
-use mathlib.Core.Path.{_≡_, refl, sym, _∙_, ap, subst}
-use mathlib.Core.List.{List, [], _∷_, _++_}
-use lib.ListN.{length, take, drop}
-use Rattle.std.specs.declared.result.Result.{Result}
+use Prim.Native.Nat.{ℕ, _+_, _-_, _*_}
+use mathlib.Core.Path.{_≡_, refl, sym, _∙_, ap}
+use mathlib.Core.List.{List}
+use lib.ListN.{length, take}
 use Rattle.std.specs.declared.result.Result.the-variants.{Ok, Err}
-use Rattle.circuit_text.specs.Lines.{lineAt}
-use Rattle.circuit_text.specs.Sections.{listed, width, lines-of, Read, linesOn, sectionOn}
+use Rattle.circuit_text.specs.Sections.{width, lines-of, linesOn}
 use Rattle.circuit_text.proofs.LinesExact.{kept-width}
 use Rattle.circuit_text.proofs.Sections.{lines-step, lines-end, lines-few, width-more, drop-further}
 use Rattle.circuit_text.proofs.section.section.Needs as need

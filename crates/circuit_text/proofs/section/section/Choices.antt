@@ -1,6 +1,6 @@
-use Prim.Native.Nat.{_+_, _-_, _*_, _≤_}
+use Prim.Native.Nat.{_+_, _-_, _*_}
 use mathlib.Core.Path.{_≡_}
-use lib.ListN.{length, take, drop}
+use lib.ListN.{take, drop}
 use Rattle.circuit_text.specs.Sections.{width, lines-of, linesOn, sectionOn}
 use Rattle.circuit_text.proofs.section.section.Given as given
 

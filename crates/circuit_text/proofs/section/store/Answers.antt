@@ -1,12 +1,10 @@
 use native.Mathlib.Omega.{arith}
-use Prim.Native.Nat.{ℕ, _+_, _≤_, _<_}
-use mathlib.Core.Path.{_≡_, refl, sym, _∙_, ap}
+use Prim.Native.Nat.{ℕ, _+_, _≤_}
+use mathlib.Core.Path.{_≡_, sym, _∙_, ap}
 use mathlib.Core.List.{List, [], _∷_, _++_}
 use lib.ListN.{length, take, drop, set}
 use Rattle.std.proofs.shelf.Lists.{append-assoc, take-more-set, length-set, drop-set-lt}
 use Rattle.circuit_text.specs.Sections.{listed}
-use Rattle.circuit_text.specs.declared.line.Kept.{Kept}
-use Rattle.circuit_text.specs.declared.line.Kept.the-variants.{Nothing, One, Two}
 use Rattle.circuit_text.proofs.section.store.Needs as need
 
 take-two : (xs : List ℕ) (n a b : ℕ) → n + 2 ≤ length xs → take (n + 2) (set (set xs n a) (n + 1) b) ≡ take n xs ++ (a ∷ b ∷ [])

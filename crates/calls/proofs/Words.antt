@@ -21,8 +21,8 @@ use Rattle.calls.specs.Cuts.{before, after}
 use Rattle.calls.specs.declared.call.Verb.{Verb}
 use Rattle.calls.specs.declared.call.Verb.the-variants as verb
 use Rattle.calls.specs.declared.call.Call.{Call}
-use Rattle.calls.specs.declared.call.Call.the-variants.{Circuit, Areas, Replay}
-use Rattle.calls.specs.Lines.{Name, Lendable, lengths-text, verb-text, Read}
+use Rattle.calls.specs.declared.call.Call.the-variants.{Circuit, Areas, Replay, Refute}
+use Rattle.calls.specs.Lines.{Name, Lendable, lengths-text, verb-text, written, Proper, Read}
 use Rattle.calls.proofs.CutAt.{uncut}
 
 -- s stands nowhere in xs
@@ -142,28 +142,72 @@ no-answer e f = let z : _≡_ {A = ℕ} 0 1 = cc in omega arith
 pub same-size : {o : Option (ℕ × ℕ)} {n k m j : ℕ} → o ≡ Some (n, k) → o ≡ Some (m, j) → k ≡ j
 same-size e f = ap (λ (o : Option (ℕ × ℕ)). valueOr o (0, 0) .1) (sym e ∙ f)
 
+-- the verb of a call, and what stands after it
+abbrev verb-of : Call → Verb
+verb-of (Circuit file) = verb.Circuit
+verb-of (Areas l) = verb.Areas
+verb-of (Replay rule file) = verb.Replay
+verb-of (Refute clauses proof) = verb.Refute
+
+abbrev argument : Call → List ℕ
+argument (Circuit file) = file .now
+argument (Areas l) = lengths-text l
+argument (Replay rule file) = decimal rule ++ (32 ∷ file .now)
+argument (Refute clauses proof) = clauses .now ++ (32 ∷ proof .now)
+
+-- a call as a line is cut behind its verb
+cut-written : (call : Call) → (before 32 (written call) ≡ verb-text (verb-of call)) × (after 32 (written call) ≡ argument call)
+cut-written (Circuit file) = (refl, refl)
+cut-written (Areas l) = (refl, refl)
+cut-written (Replay rule file) = (refl, refl)
+cut-written (Refute clauses proof) = (refl, refl)
+
+-- what may stand after a verb
+abbrev pub Argument : Verb → List ℕ → Type 0
+Argument verb.Circuit rest = Name rest
+Argument verb.Areas rest = (l : Lengths) × Lendable l × (rest ≡ lengths-text l)
+Argument verb.Replay rest = (rule : ℕ) × (file : List ℕ) × (rule < 2 ^ 32) × Name file × (rest ≡ decimal rule ++ (32 ∷ file))
+Argument verb.Refute rest = (clauses : List ℕ) × (proof : List ℕ) × Name clauses × Name proof × (rest ≡ clauses ++ (32 ∷ proof))
+
+proper-argument : (call : Call) → Proper call → Argument (verb-of call) (argument call)
+proper-argument (Circuit file) p = p
+proper-argument (Areas l) p = (l, p, refl)
+proper-argument (Replay rule file) p = (rule, file .now, p .0, p .1, refl)
+proper-argument (Refute clauses proof) p = (clauses .now, proof .now, p .0, p .1, refl)
+
+-- verbs are told apart by their third byte
+verb-at : ℕ → Verb
+verb-at k = cond (eqb k 114) verb.Circuit (cond (eqb k 101) verb.Areas (cond (eqb k 112) verb.Replay verb.Refute))
+
+abbrev third : List ℕ → ℕ
+third xs = getD xs 2 0
+
+verb-back : (v : Verb) → verb-at (third (verb-text v)) ≡ v
+unfolding verb-at
+verb-back verb.Circuit = refl
+verb-back verb.Areas = refl
+verb-back verb.Replay = refl
+verb-back verb.Refute = refl
+
+same-verb : (v w : Verb) → verb-text v ≡ verb-text w → v ≡ w
+same-verb v w e = sym (verb-back v) ∙ ap (λ (xs : List ℕ). verb-at (third xs)) e ∙ verb-back w
+
 -- a line whose first word is no verb is no call
 pub no-verb : (line : List ℕ) → ((v : Verb) → before 32 line ≡ verb-text v → ⊥) → Read line None
-no-verb line none (Circuit file) p e = none verb.Circuit (ap (before 32) e)
-no-verb line none (Areas l) p e = none verb.Areas (ap (before 32) e)
-no-verb line none (Replay rule file) p e = none verb.Replay (ap (before 32) e)
+no-verb line none call p e = none (verb-of call) (ap (before 32) e ∙ cut-written call .0)
 
--- a line with the verb `replay`, cut apart: no call but a replay is written so
-pub no-replay : (line : List ℕ) → before 32 line ≡ codes "replay" →
-    ((rule : ℕ) (file : List ℕ) → rule < 2 ^ 32 → Name file → before 32 (after 32 line) ≡ decimal rule → after 32 (after 32 line) ≡ file → ⊥) → Read line None
-no-replay line v none (Circuit file) p e = absurd (omega (arith, ap length (sym (ap (before 32) e) ∙ v)))
-no-replay line v none (Areas l) p e = absurd (omega (arith, ap length (sym (ap (before 32) e) ∙ v)))
-no-replay line v none (Replay rule file) p e =
-    let rest : after 32 line ≡ decimal rule ++ (32 ∷ file .now) = ap (after 32) e in
-    let parts = joined 32 (decimal rule) (file .now) (decimal-lacks rule (p .0)) in
-    none rule (file .now) (p .0) (p .1) (ap (before 32) rest ∙ parts .0) (ap (after 32) rest ∙ parts .1)
+-- a line with a verb after which no argument of it stands is no call
+pub no-call : (line : List ℕ) (v : Verb) → before 32 line ≡ verb-text v → (Argument v (after 32 line) → ⊥) → Read line None
+no-call line v w none call p e =
+    let same : verb-of call ≡ v = same-verb (verb-of call) v (sym (cut-written call .0) ∙ ap (before 32) (sym e) ∙ w) in
+    let rest : argument call ≡ after 32 line = sym (cut-written call .1) ∙ ap (after 32) (sym e) in
+    none (subst (λ (u : Verb). Argument u (after 32 line)) same (subst (Argument (verb-of call)) rest (proper-argument call p)))
 
--- and joined again
-pub is-replay : (line : List ℕ) (rule : ℕ) (file : List ℕ) → before 32 line ≡ codes "replay" → before 32 (after 32 line) ≡ decimal rule → after 32 (after 32 line) ≡ file →
-    0 < length file → line ≡ codes "replay " ++ (decimal rule ++ (32 ∷ file))
-is-replay line rule file v n f h =
-    let rest : after 32 line ≡ decimal rule ++ (32 ∷ file) = is-verb (after 32 line) (decimal rule) file n f h in
-    is-verb line (codes "replay") (decimal rule ++ (32 ∷ file)) v rest (omega (arith, length-append (decimal rule) (32 ∷ file)))
+-- a line of a verb and two words
+pub is-pair : (line w first second : List ℕ) → before 32 line ≡ w → before 32 (after 32 line) ≡ first → after 32 (after 32 line) ≡ second → 0 < length second → line ≡ w ++ (32 ∷ (first ++ (32 ∷ second)))
+is-pair line w first second v a b h =
+    let rest : after 32 line ≡ first ++ (32 ∷ second) = is-verb (after 32 line) first second a b h in
+    is-verb line w (first ++ (32 ∷ second)) v rest (omega (arith, length-append first (32 ∷ second)))
 
 pub lengths-some : (l : Lengths) → Lendable l → 0 < length (lengths-text l)
 lengths-some l h = omega (arith, decimal-some (l .bytes) (omega (arith, h .0)), length-append (decimal (l .bytes)) (32 ∷ (decimal (l .literals) ++ (32 ∷ decimal (l .places)))))

@@ -11,7 +11,7 @@ use Rattle.calls.specs.declared.answer.Lengths.{Lengths}
 use Rattle.calls.specs.declared.call.Verb.{Verb}
 use Rattle.calls.specs.declared.call.Verb.the-variants as verb
 use Rattle.calls.specs.declared.call.Call.{Call}
-use Rattle.calls.specs.declared.call.Call.the-variants.{Circuit, Areas, Replay}
+use Rattle.calls.specs.declared.call.Call.the-variants.{Circuit, Areas, Replay, Refute}
 
 -- a file's name is not empty and has no space
 abbrev pub Name : List ℕ → Type 0
@@ -30,18 +30,21 @@ abbrev pub verb-text : Verb → List ℕ
 verb-text verb.Circuit = codes "circuit"
 verb-text verb.Areas = codes "areas"
 verb-text verb.Replay = codes "replay"
+verb-text verb.Refute = codes "refute"
 
 -- a call as a line
 abbrev pub written : Call → List ℕ
 written (Circuit file) = codes "circuit " ++ file .now
 written (Areas l) = codes "areas " ++ lengths-text l
 written (Replay rule file) = codes "replay " ++ (decimal rule ++ (codes " " ++ file .now))
+written (Refute clauses proof) = codes "refute " ++ (clauses .now ++ (codes " " ++ proof .now))
 
 -- a call that can be made
 abbrev pub Proper : Call → Type 0
 Proper (Circuit file) = Name (file .now)
 Proper (Areas l) = Lendable l
 Proper (Replay rule file) = (rule < 2 ^ 32) × Name (file .now)
+Proper (Refute clauses proof) = Name (clauses .now) × Name (proof .now)
 
 -- a line is read as the call that it is, or as none where it is none
 abbrev pub Read : List ℕ → Option Call → Type 0

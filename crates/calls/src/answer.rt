@@ -29,6 +29,9 @@ pub enum Answer<'a> {
     Opened(Counts),
     Lent(Lengths),
     Broken { records: usize },
+    Refuted { records: usize },
+    NotAClauseList,
+    NotARefutation,
     Refused(Told),
     NoMachine,
     CannotRead(&'a str),
@@ -36,13 +39,14 @@ pub enum Answer<'a> {
 }
 
 impl Answer<'_> {
-    // Whether the call was carried out: a refusal is an answer, too.
+    // Whether the call was carried out: a refusal is an answer, too, and so is what a file is not.
     pub fn carried_out(&self) -> bool
         ensures { λ r. ⌜ r ≡ is-carried-out (now (self .entry)) ⌝ }
     {
         match self {
-            Answer::Opened(_) | Answer::Lent(_) | Answer::Broken { .. } | Answer::Refused(_) =>
-                true,
+            Answer::Opened(_) | Answer::Lent(_) | Answer::Broken { .. } => true,
+            Answer::Refuted { .. } | Answer::NotAClauseList | Answer::NotARefutation => true,
+            Answer::Refused(_) => true,
             Answer::NoMachine | Answer::CannotRead(_) | Answer::NotUnderstood => false,
         }
     }
@@ -92,6 +96,9 @@ pub impl fmt::Display for Answer<'_> as AnswerDisplay {
                 },
             ) => { write!(f, "{bytes} bytes, {literals} literals, {places} places") }
             Answer::Broken { records } => write!(f, "broken, {records} records"),
+            Answer::Refuted { records } => write!(f, "refuted, {records} records"),
+            Answer::NotAClauseList => write!(f, "not a clause list"),
+            Answer::NotARefutation => write!(f, "not a refutation"),
             Answer::Refused(
                 Told {
                     number,

@@ -9,6 +9,8 @@ pub enum Call<'a> {
     Areas(Lengths),
     // checks the counterexample certificate in the file for a rule
     Replay { rule: u32, file: &'a [u8] },
+    // checks that the proof in one file refutes the clauses in another
+    Refute { clauses: &'a [u8], proof: &'a [u8] },
 }
 
 // The word that a call begins with.
@@ -17,4 +19,5 @@ pub(crate) enum Verb {
     Circuit,
     Areas,
     Replay,
+    Refute,
 }

@@ -59,6 +59,7 @@ fn verb(word: &[u8]) -> Option<Verb>
         b"circuit" => Some(Verb::Circuit),
         b"areas" => Some(Verb::Areas),
         b"replay" => Some(Verb::Replay),
+        b"refute" => Some(Verb::Refute),
         _ => None,
     }
 }
@@ -73,10 +74,21 @@ pub fn parse(line: &[u8]) -> Option<Call<'_>>
         Verb::Areas => Some(Call::Areas(lengths(rest)?)),
         Verb::Replay => {
             let (rule, file) = cut(rest, b' ');
-            Some(Call::Replay {
-                rule: number_word(rule)?,
-                file: name(file)?,
-            })
+            Some(
+                Call::Replay {
+                    rule: number_word(rule)?,
+                    file: name(file)?,
+                },
+            )
+        }
+        Verb::Refute => {
+            let (clauses, proof) = cut(rest, b' ');
+            Some(
+                Call::Refute {
+                    clauses: name(clauses)?,
+                    proof: name(proof)?,
+                },
+            )
         }
     }
 }

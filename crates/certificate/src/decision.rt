@@ -91,7 +91,7 @@ fn end_row<M: Machine>(
 }
 
 // One record.
-pub fn step<M: Machine>(
+pub(crate) fn step<M: Machine>(
     machine: &M,
     rule: u32,
     phase: Phase,

@@ -9,7 +9,7 @@ ghost use Rattle.certificate.specs.Area.{low, SmallState};
 use machine::Machine;
 
 // Makes the start the state of the row.
-pub fn begin<M: Machine>(machine: &M, row: &mut [u8])
+pub(crate) fn begin<M: Machine>(machine: &M, row: &mut [u8])
     requires { ⌜ meaning (now machine) .variables ≤ length (now row) ⌝ }
     ensures state { λ _. ⌜ row-state (meaning (now (machine .entry))) (now (row .exit)) ≡ meaning (now (machine .entry)) .start ⌝ }
     ensures small { λ _. ⌜ SmallState (meaning (now (machine .entry))) (now (row .exit)) ⌝ }
@@ -54,7 +54,7 @@ fn shift_state<M: Machine>(machine: &M, row: &mut [u8])
 }
 
 // Makes the step of the row the state of the row.
-pub fn advance<M: Machine>(machine: &M, row: &mut [u8])
+pub(crate) fn advance<M: Machine>(machine: &M, row: &mut [u8])
     requires { ⌜ Fillable (meaning (now machine)) (now row) ⌝ }
     ensures state { λ _. ⌜ row-state (meaning (now (machine .entry))) (now (row .exit)) ≡ meaning (now (machine .entry)) .step (row-state (meaning (now (machine .entry))) (now (row .entry))) (row-inputs (meaning (now (machine .entry))) (now (row .entry))) ⌝ }
     ensures small { λ _. ⌜ SmallState (meaning (now (machine .entry))) (now (row .exit)) ⌝ }
@@ -66,7 +66,7 @@ pub fn advance<M: Machine>(machine: &M, row: &mut [u8])
 }
 
 // Whether the rule is broken in the row.
-pub fn broken<M: Machine>(machine: &M, rule: u32, row: &mut [u8]) -> bool
+pub(crate) fn broken<M: Machine>(machine: &M, rule: u32, row: &mut [u8]) -> bool
     requires fillable { ⌜ Fillable (meaning (now machine)) (now row) ⌝ }
     requires known { ⌜ rule < meaning (now machine) .rules ⌝ }
     ensures { λ r. ⌜ r ≡ meaning (now (machine .entry)) .broken rule (row-state (meaning (now (machine .entry))) (now (row .entry))) (row-inputs (meaning (now (machine .entry))) (now (row .entry))) ⌝ }

@@ -1,6 +1,6 @@
 // The faults of each layer, the refusal that holds one whole, and what it tells.
 ghost use mathlib.Core.Path.{_≡_};
-ghost use Rattle.refusal.specs.Numbers.{number-of-text, number-of-docket, number-of-certificate};
+ghost use Rattle.refusal.specs.Numbers.{number-of-text, number-of-docket, number-of-certificate, number-of-refutation};
 
 // The layer that a refusal comes from.
 #[derive(Clone, Copy, PartialEq, Eq, Debug)]
@@ -67,12 +67,26 @@ pub struct CertificateRefusal {
     pub question: u32,
 }
 
+// What is refused of a step of a refutation that is checked alone.
+#[derive(Clone, Copy, PartialEq, Eq, Debug)]
+pub enum RefutationFault {
+    // the list, or the refutation, has no such clause
+    NoClause,
+    // the pivot is not in the left clause, or its denial not in the right one
+    NoPivot,
+    // the new clause does not fit into the areas
+    Full,
+    // there is no clause, or the latest is not empty
+    NotRefuted,
+}
+
 // A refusal: the fault of one layer, whole.
 #[derive(Clone, Copy, PartialEq, Eq, Debug)]
 pub enum Refusal {
     Text(TextRefusal),
     Docket(DocketFault),
     Certificate(CertificateRefusal),
+    Refutation(RefutationFault),
 }
 
 // What every refusal tells.
@@ -120,6 +134,19 @@ impl CertificateFault {
             CertificateFault::OutOfPlace => 24,
             CertificateFault::WrongNumber => 25,
             CertificateFault::Unbroken => 30,
+        }
+    }
+}
+
+impl RefutationFault {
+    pub fn number(&self) -> u32
+        ensures { λ r. ⌜ r ≡ number-of-refutation (now (self .entry)) ⌝ }
+    {
+        match self {
+            RefutationFault::NoClause => 25,
+            RefutationFault::NoPivot => 26,
+            RefutationFault::Full => 27,
+            RefutationFault::NotRefuted => 29,
         }
     }
 }

@@ -1,7 +1,7 @@
 // What every layer can refuse, and what a refusal tells.
 ghost use mathlib.Core.Path.{_≡_};
 ghost use Rattle.refusal.specs.Numbers.{told};
-ghost use Rattle.refusal.specs.declared.faults.Refusal.the-variants.{Text, Docket, Certificate};
+ghost use Rattle.refusal.specs.declared.faults.Refusal.the-variants.{Text, Docket, Certificate, Refutation};
 
 mod faults;
 
@@ -20,6 +20,9 @@ pub use faults::LayerPartialEq;
 pub use faults::Refusal;
 pub use faults::RefusalDebug;
 pub use faults::RefusalPartialEq;
+pub use faults::RefutationFault;
+pub use faults::RefutationFaultDebug;
+pub use faults::RefutationFaultPartialEq;
 pub use faults::TextFault;
 pub use faults::TextFaultDebug;
 pub use faults::TextFaultPartialEq;
@@ -54,6 +57,14 @@ pub impl From<CertificateRefusal> for Refusal as RefusalFromCertificate {
     }
 }
 
+pub impl From<RefutationFault> for Refusal as RefusalFromRefutation {
+    ghost converts = { λ e r. r ≡ Refutation e };
+
+    fn from(e: RefutationFault) -> Refusal {
+        Refusal::Refutation(e)
+    }
+}
+
 impl Refusal {
     // Number, layer, offset and question number of a refusal.
     pub fn told(&self) -> Told
@@ -72,21 +83,17 @@ impl Refusal {
                 offset: 0,
                 question: 0,
             },
-            Refusal::Certificate(
-                CertificateRefusal {
-                    fault,
-                    offset,
-                    question,
-                },
-            ) => Told {
+            Refusal::Certificate(CertificateRefusal { fault, offset, question }) => Told {
                 number: fault.number(),
-                layer: if *question == 0 {
-                    Layer::Certificate
-                } else {
-                    Layer::Refutation
-                },
+                layer: if *question == 0 { Layer::Certificate } else { Layer::Refutation },
                 offset: *offset,
                 question: *question,
+            },
+            Refusal::Refutation(fault) => Told {
+                number: fault.number(),
+                layer: Layer::Refutation,
+                offset: 0,
+                question: 1,
             },
         }
     }

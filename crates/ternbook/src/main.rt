@@ -15,6 +15,9 @@ use circuit_text::read;
 use machine::Machine;
 use refusal::Refusal;
 use refusal::RefusalFromText;
+use refutation_files::refute_files;
+use refutation_files::Verdict;
+use stack::Span;
 use std::env;
 use std::error::AnyError;
 use std::fs;
@@ -28,6 +31,9 @@ const CIRCUIT_NUMBERS: usize = 32_798;
 const LITERALS: u32 = 1_048_576;
 
 const PLACES: u32 = 65_536;
+
+// An entry of a cleared place area.
+const NO_SPAN: Span = Span { start: 0, length: 0 };
 
 // A line that opens a machine, and its file.
 #[derive(Clone, Copy)]
@@ -103,6 +109,39 @@ fn replay_file<'a, M: Machine>(
     }
 }
 
+// Carries out the proof that one file has on the clauses that another has.
+fn refute_call<'a>(
+    rt: &LibcRuntime,
+    lengths: Lengths,
+    clauses: &'a [u8],
+    proof: &'a [u8],
+) -> Result<Answer<'a>, AnyError> {
+    let list = match contents(rt, clauses) {
+        Ok(bytes) => bytes,
+        Err(answer) => return Ok(answer),
+    };
+    let steps = match contents(rt, proof) {
+        Ok(bytes) => bytes,
+        Err(answer) => return Ok(answer),
+    };
+    let heap = rt.alloc();
+    let mut literals = vec![in heap; 0u32; lengths.literals as usize]?;
+    let mut spans = vec![in heap; NO_SPAN; lengths.places as usize]?;
+    let verdict = refute_files(
+        heap,
+        &list,
+        &steps,
+        literals.as_mut_slice(),
+        spans.as_mut_slice(),
+    )?;
+    match verdict {
+        Verdict::Refuted { records } => Ok(Answer::Refuted { records }),
+        Verdict::NotAClauseList => Ok(Answer::NotAClauseList),
+        Verdict::NotARefutation => Ok(Answer::NotARefutation),
+        Verdict::Refused(refusal) => Ok(refused(refusal)),
+    }
+}
+
 // Carries out lines until one opens a machine, or none is left; the machine is used only while one is open.
 fn serve<'a, M: Machine>(
     rt: &LibcRuntime,
@@ -126,6 +165,9 @@ fn serve<'a, M: Machine>(
                 } else {
                     Answer::NoMachine
                 }
+            }
+            Some(Call::Refute { clauses, proof }) => {
+                refute_call(rt, session.lengths, clauses, proof)?
             }
             None => Answer::NotUnderstood,
         };

@@ -11,3 +11,6 @@ returns-in-114 c = search (needs, text-from-reads)
 
 pub returns-in-99 : need.returns-in-99
 returns-in-99 c = search (needs, text-from-reads)
+
+pub returns-in-114-2 : need.returns-in-114-2
+returns-in-114-2 c = search (needs, text-from-reads)

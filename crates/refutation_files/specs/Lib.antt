@@ -1,0 +1,3 @@
+pub mod ClauseFiles
+pub mod ProofFiles
+pub mod Verdicts

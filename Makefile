@@ -1,5 +1,5 @@
-# demo: build the program and run it on the sample; test: prove and test everything.
-.PHONY: demo test
+# demo: build the program and run it on the samples; test: prove and test everything; bench: compare with plain Rust.
+.PHONY: demo test bench
 
 demo:
 	rt check ternbook
@@ -8,3 +8,7 @@ demo:
 test:
 	rt ci
 	tests/status
+
+bench:
+	rt check ternbook
+	bench/run

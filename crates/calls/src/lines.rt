@@ -74,21 +74,17 @@ pub fn parse(line: &[u8]) -> Option<Call<'_>>
         Verb::Areas => Some(Call::Areas(lengths(rest)?)),
         Verb::Replay => {
             let (rule, file) = cut(rest, b' ');
-            Some(
-                Call::Replay {
-                    rule: number_word(rule)?,
-                    file: name(file)?,
-                },
-            )
+            Some(Call::Replay {
+                rule: number_word(rule)?,
+                file: name(file)?,
+            })
         }
         Verb::Refute => {
             let (clauses, proof) = cut(rest, b' ');
-            Some(
-                Call::Refute {
-                    clauses: name(clauses)?,
-                    proof: name(proof)?,
-                },
-            )
+            Some(Call::Refute {
+                clauses: name(clauses)?,
+                proof: name(proof)?,
+            })
         }
     }
 }

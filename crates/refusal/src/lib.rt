@@ -83,9 +83,19 @@ impl Refusal {
                 offset: 0,
                 question: 0,
             },
-            Refusal::Certificate(CertificateRefusal { fault, offset, question }) => Told {
+            Refusal::Certificate(
+                CertificateRefusal {
+                    fault,
+                    offset,
+                    question,
+                },
+            ) => Told {
                 number: fault.number(),
-                layer: if *question == 0 { Layer::Certificate } else { Layer::Refutation },
+                layer: if *question == 0 {
+                    Layer::Certificate
+                } else {
+                    Layer::Refutation
+                },
                 offset: *offset,
                 question: *question,
             },

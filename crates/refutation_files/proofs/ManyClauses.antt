@@ -118,6 +118,7 @@ proper-all literals (s ∷ ss) h w = ((w .0, h .0), proper-all literals ss (h .1
 -- nothing is left
 pub filed-whole : (bytes rest literals : List ℕ) (spans : List Span) → Filed bytes rest literals spans → length rest ≡ 0 → Holds bytes literals (runs literals spans) × All (Proper literals) spans
 filed-whole bytes rest literals spans g e =
-    let cs = runs literals spans in
-    (((g .rising, g .taken ∙ ap (λ (x : List ℕ). encodes (joined clause-records cs) ++ x) (nil-from-length rest e) ∙ append-nil (encodes (joined clause-records cs))), g .joint),
-     proper-all literals spans (g .rising) (g .within))
+    let cs = runs literals spans in (
+      ((g .rising, g .taken ∙ ap (λ (x : List ℕ). encodes (joined clause-records cs) ++ x) (nil-from-length rest e) ∙ append-nil (encodes (joined clause-records cs))), g .joint),
+      proper-all literals spans (g .rising) (g .within),
+    )

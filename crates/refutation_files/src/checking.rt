@@ -29,7 +29,8 @@ fn judge(outcome: Result<usize, Refusal>, ending: Ending, steps: usize) -> Verdi
     match (outcome, ending) {
         (Ok(_), Ending::Whole) => Verdict::Refuted { records: steps + 1 },
         (Ok(_), Ending::Cut | Ending::More) => Verdict::NotARefutation,
-        (Err(Refusal::Refutation(RefutationFault::NotRefuted)), Ending::Cut) => Verdict::NotARefutation,
+        (Err(Refusal::Refutation(RefutationFault::NotRefuted)), Ending::Cut) =>
+            Verdict::NotARefutation,
         (Err(refusal), _) => Verdict::Refused(refusal),
     }
 }

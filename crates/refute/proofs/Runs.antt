@@ -36,8 +36,8 @@ pub record Running (list : List (List ℕ)) (literals spans : ℕ) (steps : List
 
 -- a list that reads nothing of the areas has the same clauses in all
 pub still : {X Y Z : Type 0} (cl : List X → List Y → Z) (m n : ℕ)
-  → ((ls ms : List X) (ps qs : List Y) → take m ms ≡ take m ls → take n qs ≡ take n ps → cl ms qs ≡ cl ls ps)
-  → m ≡ 0 → n ≡ 0 → (ls ms : List X) (ps qs : List Y) → cl ms qs ≡ cl ls ps
+    → ((ls ms : List X) (ps qs : List Y) → take m ms ≡ take m ls → take n qs ≡ take n ps → cl ms qs ≡ cl ls ps)
+    → m ≡ 0 → n ≡ 0 → (ls ms : List X) (ps qs : List Y) → cl ms qs ≡ cl ls ps
 still cl m n h a b ls ms ps qs =
     h ls ms ps qs (ap (λ k. take k ms) a ∙ ap (λ k. take k ls) (sym a)) (ap (λ k. take k qs) b ∙ ap (λ k. take k ps) (sym b))
 
@@ -75,25 +75,30 @@ next-err own (Ok c) e K h = let z : _≡_ {A = ℕ} 0 1 = cc in absurd (omega ar
 next-err own (Err d) e K h = let z : d ≡ e = cc in ap Err z
 
 module _ (list now : List (List ℕ)) (literals spans : ℕ) (steps : List Step) (i : ℕ) (d : Step) (t u : Refutation) (ls ms : List ℕ) (ps qs : List Span)
-         (same : now ≡ list) (g : Running list literals spans steps i t ls ps) (h : i < length steps) where
+    (same : now ≡ list) (g : Running list literals spans steps i t ls ps) (h : i < length steps) where
   unfold-rest : ran list literals spans steps [] ≡ next (stepped t now (getD steps i d) ls ps) (λ c. ran list literals spans (drop (i + 1) steps) (own t ls ps ++ c ∷ []))
   unfold-rest =
       sym (g .rest) ∙ at-drop-more (λ z. ran list literals spans z (own t ls ps)) steps i d h
       ∙ ap (λ o. next o (λ c. ran list literals spans (drop (i + 1) steps) (own t ls ps ++ c ∷ [])))
-          (ap (λ k. attempted list k spans (own t ls ps) (getD steps i d)) (sym (g .literals-long))
-           ∙ ap (λ k. attempted list (length ls) k (own t ls ps) (getD steps i d)) (sym (g .spans-long))
-           ∙ sym (attempt-is t ls ps (g .floor) (g .first) (g .stands) list (getD steps i d))
-           ∙ ap (λ z. stepped t z (getD steps i d) ls ps) (sym same))
+      (ap (λ k. attempted list k spans (own t ls ps) (getD steps i d)) (sym (g .literals-long))
+      ∙ ap (λ k. attempted list (length ls) k (own t ls ps) (getD steps i d)) (sym (g .spans-long))
+      ∙ sym (attempt-is t ls ps (g .floor) (g .first) (g .stands) list (getD steps i d))
+      ∙ ap (λ z. stepped t z (getD steps i d) ls ps) (sym same))
 
   pub goes : (k : ℕ) → Steps t u ls ms ps qs (stepped t now (getD steps i d) ls ps) (Ok k) → (Standing t ls ps → Carries now (own t ls ps) (own u ms qs)) → length ms ≡ length ls → length qs ≡ length ps → Running list literals spans steps (i + 1) u ms qs
   goes k s c lm lq =
       let o = stepped t now (getD steps i d) ls ps in
       let n = s .goes-on (g .stands) in
-      record { floor = ap (λ z. z .floor) (s .refutation) ∙ grown-floor t o ∙ g .floor; first = ap (λ z. z .first) (s .refutation) ∙ grown-first t o ∙ g .first;
-        literals-long = lm ∙ g .literals-long; spans-long = lq ∙ g .spans-long; stands = n .stands;
+      record {
+        floor = ap (λ z. z .floor) (s .refutation) ∙ grown-floor t o ∙ g .floor;
+        first = ap (λ z. z .first) (s .refutation) ∙ grown-first t o ∙ g .first;
+        literals-long = lm ∙ g .literals-long;
+        spans-long = lq ∙ g .spans-long;
+        stands = n .stands;
         follows = subst (λ z. Follows z (own u ms qs)) same (c (g .stands) .follows (subst (λ z. Follows z (own t ls ps)) (sym same) (g .follows)));
         rest = ap (ran list literals spans (drop (i + 1) steps)) (n .clauses)
-          ∙ sym (next-ok (own t ls ps) o k (ran list literals spans (drop (i + 1) steps)) (s .answer)) ∙ sym unfold-rest }
+            ∙ sym (next-ok (own t ls ps) o k (ran list literals spans (drop (i + 1) steps)) (s .answer)) ∙ sym unfold-rest;
+      }
 
   pub stops : (e : RefutationFault) → Steps t u ls ms ps qs (stepped t now (getD steps i d) ls ps) (Err e) → Err e ≡ concluded (ran list literals spans steps [])
   stops e s = sym (ap concluded (unfold-rest ∙ next-err (own t ls ps) (stepped t now (getD steps i d) ls ps) e _ (s .answer)))
@@ -107,9 +112,15 @@ pub begins : (list : List (List ℕ)) (steps : List Step) (t : Refutation) (ls :
 begins list steps t ls ps e h =
     let f = fresh-stands 0 0 ls ps (omega arith) (omega arith) h in
     subst (λ z. Running list (length ls) (length ps) steps 0 z ls ps) (sym e)
-      (record { floor = refl; first = refl; literals-long = refl; spans-long = refl; stands = f .0;
-         follows = subst (Follows list) (sym (f .1)) tt;
-         rest = ap (ran list (length ls) (length ps) steps) (f .1) })
+    (record {
+      floor = refl;
+      first = refl;
+      literals-long = refl;
+      spans-long = refl;
+      stands = f .0;
+      follows = subst (Follows list) (sym (f .1)) tt;
+      rest = ap (ran list (length ls) (length ps) steps) (f .1);
+    })
 
 -- what the finish leaves
 pub spent-is : {X E : Type 0} (r : Result X E) (t u : Refutation) → t .spent ≡ false → u ≡ granted r (closed t) t → u .spent ≡ granted r true false
@@ -128,11 +139,10 @@ pub start-admits : (ls : List ℕ) (ps : List Span) (t : Refutation) → Ok t �
 start-admits ls ps t h =
     ⊎-elim (λ e. e)
     (λ e. let w : started ls ps ≡ Err UnfitArea = cond-false (admitted (length ls) (length ps)) (Ok (fresh 0 0)) (Err UnfitArea) e in
-        let z : _≡_ {A = ℕ} 0 1 = cc in absurd (omega arith))
+    let z : _≡_ {A = ℕ} 0 1 = cc in absurd (omega arith))
     (cases-bool (admitted (length ls) (length ps)))
 
 pub verdict-is : (list now : List (List ℕ)) (l l′ s s′ : ℕ) (steps : List Step) (r : Result Refuted RefutationFault) → admitted l s ≡ true → now ≡ list → l′ ≡ l → s′ ≡ s → r ≡ concluded (ran now l′ s′ steps []) → told-of r ≡ verdict list l s steps
 verdict-is list now l l′ s s′ steps r h a b c e =
     ap told-of (e ∙ ap (λ z. concluded (ran z l′ s′ steps [])) a ∙ ap (λ z. concluded (ran list z s′ steps [])) b ∙ ap (λ z. concluded (ran list l z steps [])) c)
     ∙ sym (cond-true (admitted l s) (told-of (concluded (ran list l s steps []))) _ h)
-

@@ -25,7 +25,13 @@ pub use steps::StepDebug;
 pub use steps::StepPartialEq;
 
 // Takes one step.
-fn apply<L: ClauseList>(refutation: &mut Refutation, list: &L, step: Step, literals: &mut [u32], spans: &mut [Span]) -> Result<usize, RefutationFault>
+fn apply<L: ClauseList>(
+    refutation: &mut Refutation,
+    list: &L,
+    step: Step,
+    literals: &mut [u32],
+    spans: &mut [Span],
+) -> Result<usize, RefutationFault>
     ensures step { λ r. ⌜ Steps (now (refutation .entry)) (now (refutation .exit)) (now (literals .entry)) (now (literals .exit)) (now (spans .entry)) (now (spans .exit)) (stepped (now (refutation .entry)) (clauses (now (list .entry)) (now (literals .entry)) (now (spans .entry))) step (now (literals .entry)) (now (spans .entry))) r ⌝ }
     ensures spent { λ _. ⌜ now (refutation .exit) .spent ≡ now (refutation .entry) .spent ⌝ }
     ensures carries { λ _. ⌜ (Standing (now (refutation .entry)) (now (literals .entry)) (now (spans .entry)) → Carries (clauses (now (list .entry)) (now (literals .entry)) (now (spans .entry))) (own (now (refutation .entry)) (now (literals .entry)) (now (spans .entry))) (own (now (refutation .exit)) (now (literals .exit)) (now (spans .exit)))) ⌝ }
@@ -39,7 +45,13 @@ fn apply<L: ClauseList>(refutation: &mut Refutation, list: &L, step: Step, liter
 }
 
 // Takes all steps, and then finishes.
-fn attempt<L: ClauseList>(refutation: &mut Refutation, list: &L, steps: &[Step], literals: &mut [u32], spans: &mut [Span]) -> Result<Refuted, RefutationFault>
+fn attempt<L: ClauseList>(
+    refutation: &mut Refutation,
+    list: &L,
+    steps: &[Step],
+    literals: &mut [u32],
+    spans: &mut [Span],
+) -> Result<Refuted, RefutationFault>
     requires fresh { ⌜ now refutation ≡ fresh 0 0 ⌝ }
     requires admits { ⌜ admitted (length (now literals)) (length (now spans)) ≡ true ⌝ }
     ensures answer { λ r. ⌜ (literalMark (now (list .entry)) ≡ 0 → spanMark (now (list .entry)) ≡ 0 → r ≡ concluded (ran (clauses (now (list .entry)) (now (literals .entry)) (now (spans .entry))) (length (now (literals .entry))) (length (now (spans .entry))) (now (steps .entry)) [])) ⌝ }
@@ -54,14 +66,25 @@ fn attempt<L: ClauseList>(refutation: &mut Refutation, list: &L, steps: &[Step],
 }
 
 // Starts a refutation, takes all steps and finishes; answers how many clauses it had.
-pub fn refute<L: ClauseList>(list: &L, steps: &[Step], literals: &mut [u32], spans: &mut [Span]) -> Result<usize, Refusal>
+pub fn refute<L: ClauseList>(
+    list: &L,
+    steps: &[Step],
+    literals: &mut [u32],
+    spans: &mut [Span],
+) -> Result<usize, Refusal>
     ensures answer { λ r. ⌜ (literalMark (now (list .entry)) ≡ 0 → spanMark (now (list .entry)) ≡ 0 → r ≡ verdict (clauses (now (list .entry)) (now (literals .entry)) (now (spans .entry))) (length (now (literals .entry))) (length (now (spans .entry))) (now (steps .entry))) ⌝ }
     ensures refuted { λ r. ⌜ (literalMark (now (list .entry)) ≡ 0 → spanMark (now (list .entry)) ≡ 0 → Cases r (λ _. Unsat (clauses (now (list .entry)) (now (literals .entry)) (now (spans .entry)))) (λ _. Unit {0})) ⌝ }
     ensures literals { λ _. ⌜ now (literals .exit) ≡ cond (admitted (length (now (literals .entry))) (length (now (spans .entry)))) (noLiterals (now (literals .entry))) (now (literals .entry)) ⌝ }
     ensures spans { λ _. ⌜ now (spans .exit) ≡ cond (admitted (length (now (literals .entry))) (length (now (spans .entry)))) (noSpans (now (spans .entry))) (now (spans .entry)) ⌝ }
 {
     let mut refutation = Refutation::start(literals, spans)?;
-    let outcome: Result<Refuted, RefutationFault> = attempt(&mut refutation, list, steps, literals, spans);
+    let outcome: Result<Refuted, RefutationFault> = attempt(
+        &mut refutation,
+        list,
+        steps,
+        literals,
+        spans,
+    );
     match outcome {
         Ok(refuted) => Ok(refuted.spend()),
         Err(fault) => {

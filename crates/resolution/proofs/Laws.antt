@@ -41,9 +41,9 @@ any-mergeWith f x k h hk (y ∷ ys) =
     cond-both (ltb x y) (x ∷ k (y ∷ ys)) (cond (ltb y x) (y ∷ mergeWith x k ys) (x ∷ k ys)) (λ l. any f l ≡ (f x || (h || (f y || any f ys))))
     (λ _. ap (λ b. f x || b) (hk (y ∷ ys)))
     (λ e. cond-both (ltb y x) (y ∷ mergeWith x k ys) (x ∷ k ys) (λ l. any f l ≡ (f x || (h || (f y || any f ys))))
-        (λ _. ap (λ b. f y || b) (any-mergeWith f x k h hk ys) ∙ or-move (f x) (f y) h (any f ys))
-        (λ d. let s : x ≡ y = omega (arith, ltb-false x y e, ltb-false y x d) in
-            ap (λ b. f x || b) (hk ys) ∙ or-same (f x) h (any f ys) ∙ ap (λ z. f x || (h || (f z || any f ys))) s))
+    (λ _. ap (λ b. f y || b) (any-mergeWith f x k h hk ys) ∙ or-move (f x) (f y) h (any f ys))
+    (λ d. let s : x ≡ y = omega (arith, ltb-false x y e, ltb-false y x d) in
+    ap (λ b. f x || b) (hk ys) ∙ or-same (f x) h (any f ys) ∙ ap (λ z. f x || (h || (f z || any f ys))) s))
 
 any-merge : (f : ℕ → Bool) (xs ys : List ℕ) → any f (merge xs ys) ≡ (any f xs || any f ys)
 unfolding any
@@ -110,10 +110,10 @@ unfolding Implied
 implied-resolvent cs a b p ha hb v m =
     holds-merge v (without p a) (without (denial p) b)
     ∙ ⊎-elim
-        (λ t. or-right (holds v (without p a)) (holds v (without (denial p) b))
-            (holds-without v (denial p) b (denial-flips v p ∙ ap not t) ∙ hb v m))
-        (λ f. or-left (holds v (without p a)) (holds v (without (denial p) b)) (holds-without v p a f ∙ ha v m))
-        (cases-bool (literalTrue v p))
+    (λ t. or-right (holds v (without p a)) (holds v (without (denial p) b))
+    (holds-without v (denial p) b (denial-flips v p ∙ ap not t) ∙ hb v m))
+    (λ f. or-left (holds v (without p a)) (holds v (without (denial p) b)) (holds-without v p a f ∙ ha v m))
+    (cases-bool (literalTrue v p))
 
 member : (v : ℕ → Bool) (cs : List (List ℕ)) (i : ℕ) → i < length cs → models v cs ≡ true → holds v (getD cs i []) ≡ true
 member v [] i h m = absurd (omega arith)

@@ -55,7 +55,7 @@ run-new : (n : ℕ) (ls c : List ℕ) → n ≤ length ls → run (take n ls ++ 
 run-new n ls c h = ap (take (length c)) (drop-at (take n ls) c n (simp length-take (omega arith))) ∙ take-all (length c) c (omega arith)
 
 own-push : (n a m : ℕ) (ls c : List ℕ) (ps : List Span) → n + length c ≤ length ls → a ≤ m → m < length ps → All (λ p. p .start + p .length ≤ n) (take (m - a) (drop a ps))
-  → ownOf (n + length c) a (m + 1) (placed n c ls) (placed m (record { start = n; length = length c } ∷ []) ps) ≡ ownOf n a m ls ps ++ c ∷ []
+    → ownOf (n + length c) a (m + 1) (placed n c ls) (placed m (record { start = n; length = length c } ∷ []) ps) ≡ ownOf n a m ls ps ++ c ∷ []
 unfolding ownOf
 own-push n a m ls c ps h k l e =
     let below : take n (take n ls ++ c) ≡ take n (take n ls) = take-at (take n ls) c n (simp length-take (omega arith)) ∙ sym (take-take n n ls (omega arith)) in
@@ -75,7 +75,7 @@ own-none n a ls ps = let z : a - a ≡ 0 = omega arith in ap (λ k. runs (take n
 
 -- a clause more stands like those before
 module _ (t : Refutation) (ls : List ℕ) (ps : List Span) (c : List ℕ) (s : Standing t ls ps)
-         (h : t .literals .used + length c ≤ length ls) (k : t .spans .used < length ps) where
+    (h : t .literals .used + length c ≤ length ls) (k : t .spans .used < length ps) where
   grown-clauses : own (grown t (Ok c)) (written t ls (Ok c)) (noted t ps (Ok c)) ≡ own t ls ps ++ c ∷ []
   grown-clauses = own-push (t .literals .used) (t .first) (t .spans .used) ls c ps h (s .first) k (s .each)
 
@@ -84,27 +84,43 @@ module _ (t : Refutation) (ls : List ℕ) (ps : List Span) (c : List ℕ) (s : S
       let a = length-placed ls (t .literals .used) c h in
       let b = length-placed ps (t .spans .used) (record { start = t .literals .used; length = length c } ∷ []) (omega arith) in
       let e = entries-push (own t ls ps) c in
-      record { open-yet = s .open-yet;
+      record {
+        open-yet = s .open-yet;
         admits = ap (λ z. admitted z (length (noted t ps (Ok c)))) a ∙ ap (admitted (length ls)) b ∙ s .admits;
-        literals = omega arith; first = omega (arith, s .first); spans = omega arith;
+        literals = omega arith;
+        first = omega (arith, s .first);
+        spans = omega arith;
         each = subst (All (λ p. p .start + p .length ≤ t .literals .used + length c)) (sym (part-push ps (t .first) (t .spans .used) (record { start = t .literals .used; length = length c }) (s .first) k))
-          (all-push (λ p. p .start + p .length ≤ t .literals .used + length c) (take (t .spans .used - t .first) (drop (t .first) ps)) (record { start = t .literals .used; length = length c })
+            (all-push (λ p. p .start + p .length ≤ t .literals .used + length c) (take (t .spans .used - t .first) (drop (t .first) ps)) (record { start = t .literals .used; length = length c })
             (all-weaker (λ p. p .start + p .length ≤ t .literals .used) (λ p. p .start + p .length ≤ t .literals .used + length c) (λ p w. omega arith) (take (t .spans .used - t .first) (drop (t .first) ps)) (s .each)) (omega arith));
-        used = let u = s .used in let v = ap entries grown-clauses in omega arith }
+        used = let u = s .used in let v = ap entries grown-clauses in omega arith;
+      }
 
   pub grows : Goes-on t (grown t (Ok c)) ls (written t ls (Ok c)) ps (noted t ps (Ok c)) (own t ls ps ++ c ∷ [])
   grows =
       let u = s .used in
-      record { stands = grown-stands; clauses = grown-clauses;
-        kept = record { literals = below-placed ls (t .literals .used) c h (t .floor) (omega arith);
-          spans = below-placed ps (t .spans .used) (record { start = t .literals .used; length = length c } ∷ []) (omega arith) (t .first) (s .first) } }
+      record {
+        stands = grown-stands;
+        clauses = grown-clauses;
+        kept = record {
+          literals = below-placed ls (t .literals .used) c h (t .floor) (omega arith);
+          spans = below-placed ps (t .spans .used) (record { start = t .literals .used; length = length c } ∷ []) (omega arith) (t .first) (s .first);
+        };
+      }
 
 -- a refutation with no clause yet
 pub fresh-stands : (f a : ℕ) (ls : List ℕ) (ps : List Span) → f ≤ length ls → a ≤ length ps → admitted (length ls) (length ps) ≡ true → Standing (fresh f a) ls ps × (own (fresh f a) ls ps ≡ [])
 fresh-stands f a ls ps h k w =
     let z : a - a ≡ 0 = omega arith in
-    let n : own (fresh f a) ls ps ≡ [] = own-none f a ls ps in
-    (record { open-yet = refl; admits = w; literals = h; first = omega arith; spans = k;
-       each = subst (λ m. All (λ p. p .start + p .length ≤ f) (take m (drop a ps))) (sym z) tt;
-       used = let e : entries (own (fresh f a) ls ps) ≡ 0 = ap entries n in omega arith },
-     n)
+    let n : own (fresh f a) ls ps ≡ [] = own-none f a ls ps in (
+      record {
+        open-yet = refl;
+        admits = w;
+        literals = h;
+        first = omega arith;
+        spans = k;
+        each = subst (λ m. All (λ p. p .start + p .length ≤ f) (take m (drop a ps))) (sym z) tt;
+        used = let e : entries (own (fresh f a) ls ps) ≡ 0 = ap entries n in omega arith;
+      },
+      n,
+    )

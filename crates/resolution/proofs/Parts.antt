@@ -120,8 +120,8 @@ rest-kept n ls ms p q i e j f h k l m t =
 
 -- the turns of the loop of join: ls as it began, ms as it is
 module _ (n : ℕ) (ls ms : List ℕ) (p q i e j f i′ j′ at : ℕ) (whole : List ℕ)
-         (hi : i′ ≤ e) (he : e ≤ n) (hj : j′ ≤ f) (hf : f ≤ n) (li : i ≤ i′) (lj : j ≤ j′)
-         (front : take n ms ≡ take n ls) (inv : part ms n at ++ rest ls p q i e j f ≡ whole) where
+    (hi : i′ ≤ e) (he : e ≤ n) (hj : j′ ≤ f) (hf : f ≤ n) (li : i ≤ i′) (lj : j ≤ j′)
+    (front : take n ms ≡ take n ls) (inv : part ms n at ++ rest ls p q i e j f ≡ whole) where
   pub turn-skip : rest ms p q i e j f ≡ rest ms p q i′ e j′ f → part ms n at ++ rest ls p q i′ e j′ f ≡ whole
   turn-skip s =
       ap (λ r. part ms n at ++ r) (sym (rest-kept n ls ms p q i′ e j′ f hi he hj hf front) ∙ sym s ∙ rest-kept n ls ms p q i e j f (omega arith) he (omega arith) hf front)
@@ -156,8 +156,8 @@ part-set ms n at v h = part-kept at ms (set ms at v) n at h (omega arith) (take-
 
 -- a turn of the quick loop
 module _ (n : ℕ) (ls ms : List ℕ) (p q i e j f at : ℕ) (whole : List ℕ)
-         (hi : i < e) (he : e ≤ n) (hj : j < f) (hf : f ≤ n) (hn : n ≤ at) (ha : at < length ms)
-         (front : take n ms ≡ take n ls) (inv : part ms n at ++ rest ls p q i e j f ≡ whole) where
+    (hi : i < e) (he : e ≤ n) (hj : j < f) (hf : f ≤ n) (hn : n ≤ at) (ha : at < length ms)
+    (front : take n ms ≡ take n ls) (inv : part ms n at ++ rest ls p q i e j f ≡ whole) where
   turn-none : (v i′ j′ : ℕ) → i ≤ i′ → i′ ≤ e → j ≤ j′ → j′ ≤ f → rest ms p q i e j f ≡ rest ms p q i′ e j′ f → part (set ms at v) n at ++ rest ls p q i′ e j′ f ≡ whole
   turn-none v i′ j′ a b c d s =
       ap (λ r. r ++ rest ls p q i′ e j′ f) (part-set ms n at v hn)
@@ -181,25 +181,25 @@ module _ (n : ℕ) (ls ms : List ℕ) (p q i e j f at : ℕ) (whole : List ℕ)
     pub turn-quick : (l r k v : ℕ) → Moves (getD ms i 0) (getD ms j 0) p q l r k → (k ≡ 1 → v ≡ min (getD ms i 0) (getD ms j 0)) → part (set ms at v) n (at + k) ++ rest ls p q (i + l) e (j + r) f ≡ whole
     turn-quick l r k v (skip-left x a b c) t =
         at-places v (at + k) (i + l) (j + r) at (i + 1) j (omega arith) (omega arith) (omega arith)
-          (turn-none v (i + 1) j (omega arith) (omega arith) (omega arith) (omega arith) (rest-skip-left ms p q i e j f hi le x))
+        (turn-none v (i + 1) j (omega arith) (omega arith) (omega arith) (omega arith) (rest-skip-left ms p q i e j f hi le x))
     turn-quick l r k v (skip-right y a b c) t =
         at-places v (at + k) (i + l) (j + r) at i (j + 1) (omega arith) (omega arith) (omega arith)
-          (turn-none v i (j + 1) (omega arith) (omega arith) (omega arith) (omega arith) (rest-skip-right ms p q i e j f hj lf y))
+        (turn-none v i (j + 1) (omega arith) (omega arith) (omega arith) (omega arith) (rest-skip-right ms p q i e j f hj lf y))
     turn-quick l r k v (keep-left x y o a b c) t =
         let u = t c in
         at-places v (at + k) (i + l) (j + r) (at + 1) (i + 1) j (omega arith) (omega arith) (omega arith)
-          (as-value v (getD ms i 0) (i + 1) j (omega arith)
-            (turn-one (getD ms i 0) (i + 1) j (omega arith) (omega arith) (omega arith) (omega arith) (rest-lt ms p q i e j f hi le x hj lf y o)))
+        (as-value v (getD ms i 0) (i + 1) j (omega arith)
+        (turn-one (getD ms i 0) (i + 1) j (omega arith) (omega arith) (omega arith) (omega arith) (rest-lt ms p q i e j f hi le x hj lf y o)))
     turn-quick l r k v (keep-right x y o a b c) t =
         let u = t c in
         at-places v (at + k) (i + l) (j + r) (at + 1) i (j + 1) (omega arith) (omega arith) (omega arith)
-          (as-value v (getD ms j 0) i (j + 1) (omega arith)
-            (turn-one (getD ms j 0) i (j + 1) (omega arith) (omega arith) (omega arith) (omega arith) (rest-gt ms p q i e j f hi le x hj lf y o)))
+        (as-value v (getD ms j 0) i (j + 1) (omega arith)
+        (turn-one (getD ms j 0) i (j + 1) (omega arith) (omega arith) (omega arith) (omega arith) (rest-gt ms p q i e j f hi le x hj lf y o)))
     turn-quick l r k v (keep-both x y o o′ a b c) t =
         let u = t c in
         at-places v (at + k) (i + l) (j + r) (at + 1) (i + 1) (j + 1) (omega arith) (omega arith) (omega arith)
-          (as-value v (getD ms i 0) (i + 1) (j + 1) (omega arith)
-            (turn-one (getD ms i 0) (i + 1) (j + 1) (omega arith) (omega arith) (omega arith) (omega arith) (rest-eq ms p q i e j f hi le x hj lf y o o′)))
+        (as-value v (getD ms i 0) (i + 1) (j + 1) (omega arith)
+        (turn-one (getD ms i 0) (i + 1) (j + 1) (omega arith) (omega arith) (omega arith) (omega arith) (rest-eq ms p q i e j f hi le x hj lf y o o′)))
 
 -- a move reads and keeps at most one
 pub moved : (x y p q l r k : ℕ) → Moves x y p q l r k → (l ≤ 1) × (r ≤ 1) × (k ≤ 1) × (1 ≤ l + r)
@@ -218,9 +218,9 @@ pub tail-quick : (ls ms : List ℕ) (at k v : ℕ) → k ≤ 1 → (k ≡ 0 → 
 tail-quick ls ms at k v h o t =
     ⊎-elim
     (λ (e : k ≡ 0). let z : at + k ≡ at = omega arith in
-        ap (λ w. drop (at + k) (set ms at w)) (o e) ∙ ap (drop (at + k)) (set-getD ms at 0) ∙ ap (λ w. drop w ms) z ∙ t ∙ ap (λ w. drop w ls) (sym z))
+    ap (λ w. drop (at + k) (set ms at w)) (o e) ∙ ap (drop (at + k)) (set-getD ms at 0) ∙ ap (λ w. drop w ms) z ∙ t ∙ ap (λ w. drop w ls) (sym z))
     (λ (e : k ≡ 0 → ⊥). let z : at + k ≡ at + 1 = omega arith in
-        ap (λ w. drop w (set ms at v)) z ∙ tail-more ls ms at v t ∙ ap (λ w. drop w ls) (sym z))
+    ap (λ w. drop w (set ms at v)) z ∙ tail-more ls ms at v t ∙ ap (λ w. drop w ls) (sym z))
     (cases-eq k 0)
 
 -- what is written, at the end
@@ -228,11 +228,12 @@ pub joined : (n at : ℕ) (ls ms whole : List ℕ) → n ≤ at → at ≤ lengt
 joined n at ls ms whole h k t d p =
     let q : length (part ms n at) ≡ length whole = ap length p in
     let r = length-part ms n at h k in
-    let z : at ≡ n + length whole = omega arith in
-    (z,
-     sym (take-append-drop at ms)
-     ∙ ap (λ a. a ++ drop at ms) (take-part ms n at h ∙ ap (λ a. a ++ part ms n at) t ∙ ap (λ a. take n ls ++ a) p)
-     ∙ ap (λ a. (take n ls ++ whole) ++ a) (d ∙ ap (λ w. drop w ls) z))
+    let z : at ≡ n + length whole = omega arith in (
+      z,
+      sym (take-append-drop at ms)
+          ∙ ap (λ a. a ++ drop at ms) (take-part ms n at h ∙ ap (λ a. a ++ part ms n at) t ∙ ap (λ a. take n ls ++ a) p)
+          ∙ ap (λ a. (take n ls ++ whole) ++ a) (d ∙ ap (λ w. drop w ls) z),
+    )
 
 -- where a literal is still to be written, an entry is free
 pub unwritten : (n at x : ℕ) (ms more less whole : List ℕ) → n ≤ at → at ≤ length ms → part ms n at ++ more ≡ whole → more ≡ x ∷ less → n + length whole ≤ length ms → at < length ms
@@ -250,8 +251,8 @@ short-mergeWith x h k hk (y ∷ ys) =
     cond-both (ltb x y) (x ∷ k (y ∷ ys)) (cond (ltb y x) (y ∷ mergeWith x k ys) (x ∷ k ys)) (λ l. length l ≤ suc h + length (y ∷ ys))
     (λ _. let a = hk (y ∷ ys) in omega arith)
     (λ _. cond-both (ltb y x) (y ∷ mergeWith x k ys) (x ∷ k ys) (λ l. length l ≤ suc h + length (y ∷ ys))
-        (λ _. let a = short-mergeWith x h k hk ys in omega arith)
-        (λ _. let a = hk ys in omega arith))
+    (λ _. let a = short-mergeWith x h k hk ys in omega arith)
+    (λ _. let a = hk ys in omega arith))
 
 short-merge : (xs ys : List ℕ) → length (merge xs ys) ≤ length xs + length ys
 short-merge [] ys = omega arith

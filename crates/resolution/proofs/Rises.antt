@@ -96,9 +96,9 @@ rising-mergeWith x xs a hk (y ∷ ys) h =
     cond-both (ltb x y) (x ∷ merge xs (y ∷ ys)) (cond (ltb y x) (y ∷ mergeWith x (merge xs) ys) (x ∷ merge xs ys)) Rising
     (λ e. let l : x < y = ltb-true x y e in (all-merge (λ z. x < z) xs (y ∷ ys) a (l, above x y ys (omega arith) (h .0)), hk (y ∷ ys) h))
     (λ e. cond-both (ltb y x) (y ∷ mergeWith x (merge xs) ys) (x ∷ merge xs ys) Rising
-        (λ f. let l : y < x = ltb-true y x f in
-            (all-mergeWith (λ z. y < z) x (merge xs) l (λ zs b. all-merge (λ z. y < z) xs zs (above y x xs (omega arith) a) b) ys (h .0), rising-mergeWith x xs a hk ys (h .1)))
-        (λ f. (all-merge (λ z. x < z) xs ys a (above x y ys (ltb-false y x f) (h .0)), hk ys (h .1))))
+    (λ f. let l : y < x = ltb-true y x f in
+    (all-mergeWith (λ z. y < z) x (merge xs) l (λ zs b. all-merge (λ z. y < z) xs zs (above y x xs (omega arith) a) b) ys (h .0), rising-mergeWith x xs a hk ys (h .1)))
+    (λ f. (all-merge (λ z. x < z) xs ys a (above x y ys (ltb-false y x f) (h .0)), hk ys (h .1))))
 
 rising-merge : (xs ys : List ℕ) → Rising xs → Rising ys → Rising (merge xs ys)
 rising-merge [] ys hx hy = hy

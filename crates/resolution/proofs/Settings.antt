@@ -31,9 +31,9 @@ pub denial-flips : (v : ℕ → Bool) (l : ℕ) → literalTrue v (denial l) ≡
 denial-flips v l =
     ⊎-elim
     (λ e. ap (literalTrue v) (denial-even l e) ∙ true-odd v (l + 1) (omega arith)
-        ∙ ap (λ k. not (v k)) (let q : (l + 1) / 2 ≡ l / 2 = omega arith in q) ∙ ap not (sym (true-even v l e)))
+    ∙ ap (λ k. not (v k)) (let q : (l + 1) / 2 ≡ l / 2 = omega arith in q) ∙ ap not (sym (true-even v l e)))
     (λ o. ap (literalTrue v) (denial-odd l o) ∙ true-even v (l - 1) (omega arith)
-        ∙ ap v (let q : (l - 1) / 2 ≡ l / 2 = omega arith in q) ∙ sym (Bool·not-not (v (l / 2))) ∙ ap not (sym (true-odd v l o)))
+    ∙ ap v (let q : (l - 1) / 2 ≡ l / 2 = omega arith in q) ∙ sym (Bool·not-not (v (l / 2))) ∙ ap not (sym (true-odd v l o)))
     (parity l)
 
 -- two settings, at two literals of the same sign

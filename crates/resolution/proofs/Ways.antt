@@ -103,8 +103,13 @@ module _ (ds : List (List ℕ)) (i j p used literals made spans : ℕ) where
 module _ (t : Refutation) (ls : List ℕ) (ps : List Span) (o : Result (List ℕ) RefutationFault) (e : RefutationFault) (w : o ≡ Err e) where
   pub refused : Steps t t ls ls ps ps o (Err e)
   refused =
-      record { answer = ap (numbered (own t ls ps)) (sym w); refutation = ap (grown t) (sym w); literals = ap (written t ls) (sym w); spans = ap (noted t ps) (sym w);
-        goes-on = λ s. record { stands = s; clauses = ap (added (own t ls ps)) (sym w); kept = record { literals = refl; spans = refl } } }
+      record {
+        answer = ap (numbered (own t ls ps)) (sym w);
+        refutation = ap (grown t) (sym w);
+        literals = ap (written t ls) (sym w);
+        spans = ap (noted t ps) (sym w);
+        goes-on = λ s. record { stands = s; clauses = ap (added (own t ls ps)) (sym w); kept = record { literals = refl; spans = refl } };
+      }
 
   -- as it was
   pub refused-as : (u : Refutation) (ms : List ℕ) → u ≡ t → ms ≡ ls → Steps t u ls ms ps ps o (Err e)
@@ -118,23 +123,30 @@ same-as list t u ls ms ps eu em = subst (λ z. Carries list (own t ls ps) (own u
 
 -- a step that makes the clause c
 module _ (t u : Refutation) (ls ms : List ℕ) (ps qs : List Span) (c : List ℕ)
-         (eu : u ≡ grown t (Ok c)) (em : ms ≡ written t ls (Ok c)) (eq : qs ≡ noted t ps (Ok c))
-         (h : t .literals .used + length c ≤ length ls) (k : t .spans .used < length ps) where
+    (eu : u ≡ grown t (Ok c)) (em : ms ≡ written t ls (Ok c)) (eq : qs ≡ noted t ps (Ok c))
+    (h : t .literals .used + length c ≤ length ls) (k : t .spans .used < length ps) where
   makes : Standing t ls ps → Goes-on t u ls ms ps qs (own t ls ps ++ c ∷ [])
   makes s =
       subst (λ z. Goes-on t u ls ms ps z (own t ls ps ++ c ∷ [])) (sym eq)
-        (subst (λ z. Goes-on t u ls z ps (noted t ps (Ok c)) (own t ls ps ++ c ∷ [])) (sym em)
-          (subst (λ z. Goes-on t z ls (written t ls (Ok c)) ps (noted t ps (Ok c)) (own t ls ps ++ c ∷ [])) (sym eu) (grows t ls ps c s h k)))
+      (subst (λ z. Goes-on t u ls z ps (noted t ps (Ok c)) (own t ls ps ++ c ∷ [])) (sym em)
+      (subst (λ z. Goes-on t z ls (written t ls (Ok c)) ps (noted t ps (Ok c)) (own t ls ps ++ c ∷ [])) (sym eu) (grows t ls ps c s h k)))
 
   pub made : (o : Result (List ℕ) RefutationFault) (r : Result ℕ RefutationFault) → o ≡ Ok c → r ≡ Ok (length (own t ls ps)) → Steps t u ls ms ps qs o r
   made o r w er =
-      record { answer = er ∙ ap (numbered (own t ls ps)) (sym w); refutation = eu ∙ ap (grown t) (sym w); literals = em ∙ ap (written t ls) (sym w); spans = eq ∙ ap (noted t ps) (sym w);
-        goes-on = λ s. subst (Goes-on t u ls ms ps qs) (ap (added (own t ls ps)) (sym w)) (makes s) }
+      record {
+        answer = er ∙ ap (numbered (own t ls ps)) (sym w);
+        refutation = eu ∙ ap (grown t) (sym w);
+        literals = em ∙ ap (written t ls) (sym w);
+        spans = eq ∙ ap (noted t ps) (sym w);
+        goes-on = λ s. subst (Goes-on t u ls ms ps qs) (ap (added (own t ls ps)) (sym w)) (makes s);
+      }
 
   pub carried : (list : List (List ℕ)) → (Follows list (own t ls ps) → Implied list c) → (All Rising list → All Rising (own t ls ps) → Rising c) → Standing t ls ps → Carries list (own t ls ps) (own u ms qs)
   carried list f g s =
-      record { follows = λ a. subst (Follows list) (sym (makes s .clauses)) (all-push (Implied list) (own t ls ps) c a (f a));
-        rises = λ a b. subst (All Rising) (sym (makes s .clauses)) (all-push Rising (own t ls ps) c b (g a b)) }
+      record {
+        follows = λ a. subst (Follows list) (sym (makes s .clauses)) (all-push (Implied list) (own t ls ps) c a (f a));
+        rises = λ a b. subst (All Rising) (sym (makes s .clauses)) (all-push Rising (own t ls ps) c b (g a b));
+      }
 
 -- the end of a refutation
 module _ (ds : List (List ℕ)) where

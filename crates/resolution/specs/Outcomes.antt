@@ -28,10 +28,10 @@ takes list n used literals made spans = cond (ltb n (length list)) (fits (clause
 unfoldable pub resolves : List (List ℕ) → ℕ → ℕ → ℕ → ℕ → ℕ → ℕ → ℕ → Result (List ℕ) RefutationFault
 resolves own left right pivot used literals made spans =
     cond (ltb left (length own) && ltb right (length own))
-      (cond (contains pivot (clauseAt own left) && contains (denial pivot) (clauseAt own right))
-        (fits (resolvent (clauseAt own left) (clauseAt own right) pivot) used literals made spans)
-        (Err NoPivot))
-      (Err NoClause)
+    (cond (contains pivot (clauseAt own left) && contains (denial pivot) (clauseAt own right))
+    (fits (resolvent (clauseAt own left) (clauseAt own right) pivot) used literals made spans)
+    (Err NoPivot))
+    (Err NoClause)
 
 -- the answer: the new clause's number, or the refusal
 abbrev pub numbered : List (List ℕ) → Result (List ℕ) RefutationFault → Result ℕ RefutationFault

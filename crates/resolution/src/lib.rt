@@ -2,6 +2,7 @@
 ghost use mathlib.Core.Path.{_≡_};
 ghost use Rattle.resolution.specs.Clauses.{denial};
 
+mod alone;
 mod lists;
 mod merging;
 mod refutation;
@@ -21,5 +22,9 @@ pub use table::TableList;
 pub fn deny(literal: u32) -> u32
     ensures { λ r. ⌜ r ≡ denial literal ⌝ }
 {
-    if literal % 2 == 0 { literal + 1 } else { literal - 1 }
+    if literal % 2 == 0 {
+        literal + 1
+    } else {
+        literal - 1
+    }
 }

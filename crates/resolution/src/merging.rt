@@ -42,29 +42,61 @@ fn step(ls: &[u32], i: usize, e: usize, j: usize, f: usize, p: u32, q: u32) -> O
     if i < e {
         let x = ls[i];
         if x == p {
-            return Some(Next { keep: None, i: i + 1, j });
+            return Some(Next {
+                keep: None,
+                i: i + 1,
+                j,
+            });
         }
         if j < f {
             let y = ls[j];
             if y == q {
-                return Some(Next { keep: None, i, j: j + 1 });
+                return Some(Next {
+                    keep: None,
+                    i,
+                    j: j + 1,
+                });
             }
             if x < y {
-                return Some(Next { keep: Some(x), i: i + 1, j });
+                return Some(Next {
+                    keep: Some(x),
+                    i: i + 1,
+                    j,
+                });
             }
             if y < x {
-                return Some(Next { keep: Some(y), i, j: j + 1 });
+                return Some(Next {
+                    keep: Some(y),
+                    i,
+                    j: j + 1,
+                });
             }
-            return Some(Next { keep: Some(x), i: i + 1, j: j + 1 });
+            return Some(Next {
+                keep: Some(x),
+                i: i + 1,
+                j: j + 1,
+            });
         }
-        return Some(Next { keep: Some(x), i: i + 1, j });
+        return Some(Next {
+            keep: Some(x),
+            i: i + 1,
+            j,
+        });
     }
     if j < f {
         let y = ls[j];
         if y == q {
-            return Some(Next { keep: None, i, j: j + 1 });
+            return Some(Next {
+                keep: None,
+                i,
+                j: j + 1,
+            });
         }
-        return Some(Next { keep: Some(y), i, j: j + 1 });
+        return Some(Next {
+            keep: Some(y),
+            i,
+            j: j + 1,
+        });
     }
     None
 }

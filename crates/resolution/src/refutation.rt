@@ -7,7 +7,6 @@ ghost use lib.Dec.{ltb};
 ghost use lib.ListN.{length, take};
 ghost use Rattle.std.specs.Options.{Cases as BySome};
 ghost use Rattle.std.specs.Results.{Cases};
-ghost use Rattle.refusal.specs.declared.faults.DocketFault.the-variants.{UnfitArea};
 ghost use Rattle.refusal.specs.declared.faults.RefutationFault.the-variants.{NotRefuted};
 ghost use Rattle.stack.specs.declared.spans.Span.{Span as SpanOf};
 ghost use Rattle.stack.specs.Pushes.{placed};
@@ -16,19 +15,15 @@ ghost use Rattle.resolution.specs.Clauses.{Unsat};
 ghost use Rattle.resolution.specs.Lists.{clauseAt};
 ghost use Rattle.resolution.specs.Resolvents.{Resolvents-law};
 ghost use Rattle.resolution.specs.Outcomes.{admitted, granted};
-ghost use Rattle.resolution.specs.States.{own, taken, resolved, fresh, started, closed, ended, noLiterals, noSpans, Standing, Follows, Steps, Carries};
+ghost use Rattle.resolution.specs.States.{own, taken, resolved, fresh, closed, ended, Standing, Follows, Steps, Carries};
 use super::deny;
 use super::lists::ClauseList;
 use super::merging::has;
 use super::merging::has_room;
 use super::merging::join;
-use areas::clear;
-use areas::U32Blank;
-use refusal::DocketFault;
 use refusal::RefutationFault;
 use stack::Bounds;
 use stack::Span;
-use stack::SpanBlank;
 use stack::Stack;
 
 // Its clauses are the spans from `first` up to the top; their literals start at `floor`.
@@ -45,7 +40,13 @@ impl Drop for Refutation {
     fn drop(self)
         requires { ⌜ self .spent ≡ true ⌝ }
     {
-        let Refutation { floor: _, first: _, literals: _, spans: _, spent: _ } = self;
+        let Refutation {
+            floor: _,
+            first: _,
+            literals: _,
+            spans: _,
+            spent: _,
+        } = self;
     }
 }
 
@@ -64,8 +65,8 @@ impl Refuted {
     }
 }
 
-// The longest areas that a refutation works in.
-fn fitting(literals: &[u32], spans: &[Span]) -> bool
+// Whether a refutation may work in areas of these lengths.
+pub fn fitting(literals: &[u32], spans: &[Span]) -> bool
     ensures { λ r. ⌜ r ≡ admitted (length (now (literals .entry))) (length (now (spans .entry))) ⌝ }
 {
     literals.len() <= 1048576 && spans.len() <= 65536
@@ -100,12 +101,24 @@ impl Refutation {
     {
         let number = self.spans.used.saturating_sub(self.first);
         let length = self.literals.used - start;
-        let _ = self.spans.push(spans, Span { start: start as u32, length: length as u32 });
+        let _ = self.spans.push(
+            spans,
+            Span {
+                start: start as u32,
+                length: length as u32,
+            },
+        );
         number
     }
 
     // Takes clause `number` of a list over as one of its own, and answers its number here.
-    pub fn take<L: ClauseList>(&mut self, list: &L, number: usize, literals: &mut [u32], spans: &mut [Span]) -> Result<usize, RefutationFault>
+    pub fn take<L: ClauseList>(
+        &mut self,
+        list: &L,
+        number: usize,
+        literals: &mut [u32],
+        spans: &mut [Span],
+    ) -> Result<usize, RefutationFault>
         ensures step { λ r. ⌜ Steps (now (self .entry)) (now (self .exit)) (now (literals .entry)) (now (literals .exit)) (now (spans .entry)) (now (spans .exit)) (taken (now (self .entry)) (clauses (now (list .entry)) (now (literals .entry)) (now (spans .entry))) number (now (literals .entry)) (now (spans .entry))) r ⌝ }
         ensures spent { λ _. ⌜ now (self .exit) .spent ≡ now (self .entry) .spent ⌝ }
         ensures carries { λ _. ⌜ (Standing (now (self .entry)) (now (literals .entry)) (now (spans .entry)) → Carries (clauses (now (list .entry)) (now (literals .entry)) (now (spans .entry))) (own (now (self .entry)) (now (literals .entry)) (now (spans .entry))) (own (now (self .exit)) (now (literals .exit)) (now (spans .exit)))) ⌝ }
@@ -127,7 +140,14 @@ impl Refutation {
     }
 
     // Resolves two of its clauses on a literal of the left one, and answers the new clause's number.
-    pub fn resolve(&mut self, left: usize, right: usize, pivot: u32, literals: &mut [u32], spans: &mut [Span]) -> Result<usize, RefutationFault>
+    pub fn resolve(
+        &mut self,
+        left: usize,
+        right: usize,
+        pivot: u32,
+        literals: &mut [u32],
+        spans: &mut [Span],
+    ) -> Result<usize, RefutationFault>
         ensures step { λ r. ⌜ Steps (now (self .entry)) (now (self .exit)) (now (literals .entry)) (now (literals .exit)) (now (spans .entry)) (now (spans .exit)) (resolved (now (self .entry)) left right pivot (now (literals .entry)) (now (spans .entry))) r ⌝ }
         ensures spent { λ _. ⌜ now (self .exit) .spent ≡ now (self .entry) .spent ⌝ }
         ensures carries { λ _. ⌜ ((list : List (List ℕ)) → Standing (now (self .entry)) (now (literals .entry)) (now (spans .entry)) → Carries list (own (now (self .entry)) (now (literals .entry)) (now (spans .entry))) (own (now (self .exit)) (now (literals .exit)) (now (spans .exit)))) ⌝ }
@@ -162,7 +182,13 @@ impl Refutation {
         ensures made { λ r. ⌜ r ≡ fresh (literals .used) (spans .used) ⌝ }
         ensures stands { λ r. ⌜ ((ls : List ℕ) (ps : List SpanOf) → literals .used ≤ length ls → spans .used ≤ length ps → admitted (length ls) (length ps) ≡ true → Standing r ls ps × (own r ls ps ≡ [])) ⌝ }
     {
-        Refutation { floor: literals.used, first: spans.used, literals, spans, spent: false }
+        Refutation {
+            floor: literals.used,
+            first: spans.used,
+            literals,
+            spans,
+            spent: false,
+        }
     }
 
     // Drops its clauses, and ends it; the areas stay.
@@ -192,45 +218,5 @@ impl Refutation {
         }
         self.abandon();
         Ok(Refuted { clauses: made })
-    }
-
-    // A refutation that has both areas for itself; they are all zero then.
-    pub fn start(literals: &mut [u32], spans: &mut [Span]) -> Result<Refutation, DocketFault>
-        ensures answer { λ r. ⌜ r ≡ started (now (literals .entry)) (now (spans .entry)) ⌝ }
-        ensures literals { λ r. ⌜ now (literals .exit) ≡ granted r (noLiterals (now (literals .entry))) (now (literals .entry)) ⌝ }
-        ensures spans { λ r. ⌜ now (spans .exit) ≡ granted r (noSpans (now (spans .entry))) (now (spans .entry)) ⌝ }
-        ensures stands { λ r. ⌜ Cases r (λ t. Standing t (now (literals .exit)) (now (spans .exit)) × (own t (now (literals .exit)) (now (spans .exit)) ≡ [])) (λ e. e ≡ UnfitArea) ⌝ }
-    {
-        if !fitting(literals, spans) {
-            return Err(DocketFault::UnfitArea);
-        }
-        clear(literals);
-        clear(spans);
-        Ok(Refutation::above(Stack { used: 0 }, Stack { used: 0 }))
-    }
-
-    // Ends it, where it has a clause and the latest is empty; both areas are all zero then.
-    pub fn finish(&mut self, literals: &mut [u32], spans: &mut [Span]) -> Result<Refuted, RefutationFault>
-        ensures answer { λ r. ⌜ r ≡ ended (own (now (self .entry)) (now (literals .entry)) (now (spans .entry))) ⌝ }
-        ensures refutation { λ r. ⌜ now (self .exit) ≡ granted r (closed (now (self .entry))) (now (self .entry)) ⌝ }
-        ensures literals { λ r. ⌜ now (literals .exit) ≡ granted r (noLiterals (now (literals .entry))) (now (literals .entry)) ⌝ }
-        ensures spans { λ r. ⌜ now (spans .exit) ≡ granted r (noSpans (now (spans .entry))) (now (spans .entry)) ⌝ }
-        ensures refuted { λ r. ⌜ Cases r (λ _. (list : List (List ℕ)) → Follows list (own (now (self .entry)) (now (literals .entry)) (now (spans .entry))) → Unsat list) (λ e. e ≡ NotRefuted) ⌝ }
-    {
-        let refuted = self.conclude(literals, spans)?;
-        clear(literals);
-        clear(spans);
-        Ok(refuted)
-    }
-
-    // Ends it with nothing shown; both areas are all zero then.
-    pub fn give_up(&mut self, literals: &mut [u32], spans: &mut [Span])
-        ensures refutation { λ _. ⌜ now (self .exit) ≡ closed (now (self .entry)) ⌝ }
-        ensures literals { λ _. ⌜ now (literals .exit) ≡ noLiterals (now (literals .entry)) ⌝ }
-        ensures spans { λ _. ⌜ now (spans .exit) ≡ noSpans (now (spans .entry)) ⌝ }
-    {
-        clear(literals);
-        clear(spans);
-        self.abandon();
     }
 }

@@ -44,13 +44,13 @@ pub between-min : {X : Type 0} (area : List X) (a b start end : ℕ) → end ≡
 between-min area a b start end e s =
     ⊎-elim
     (λ (l : a < end).
-        let q : start ≡ a = omega arith in
-        let z : min (b - a) (length area - a) ≡ end - a = omega arith in
-        sym (take-min (b - a) (drop a area)) ∙ ap (λ n. take (min (b - a) n) (drop a area)) (length-drop a area) ∙ ap (λ n. take n (drop a area)) z ∙ ap (λ n. take (end - n) (drop n area)) (sym q))
+    let q : start ≡ a = omega arith in
+    let z : min (b - a) (length area - a) ≡ end - a = omega arith in
+    sym (take-min (b - a) (drop a area)) ∙ ap (λ n. take (min (b - a) n) (drop a area)) (length-drop a area) ∙ ap (λ n. take n (drop a area)) z ∙ ap (λ n. take (end - n) (drop n area)) (sym q))
     (λ (g : end ≤ a).
-        let z : min (b - a) (length area - a) ≡ 0 = omega arith in
-        let y : end - start ≡ 0 = omega arith in
-        sym (take-min (b - a) (drop a area)) ∙ ap (λ n. take (min (b - a) n) (drop a area)) (length-drop a area) ∙ ap (λ n. take n (drop a area)) z ∙ ap (λ n. take n (drop start area)) (sym y))
+    let z : min (b - a) (length area - a) ≡ 0 = omega arith in
+    let y : end - start ≡ 0 = omega arith in
+    sym (take-min (b - a) (drop a area)) ∙ ap (λ n. take (min (b - a) n) (drop a area)) (length-drop a area) ∙ ap (λ n. take n (drop a area)) z ∙ ap (λ n. take n (drop start area)) (sym y))
     (cases-lt a end)
 
 pub length-between : {X : Type 0} (area : List X) (a b start end : ℕ) → end ≡ min b (length area) → start ≡ min a end → length (take (b - a) (drop a area)) ≡ end - start

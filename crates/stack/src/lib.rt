@@ -62,7 +62,11 @@ impl Stack {
     pub fn read<T: Copy>(&self, area: &[T], place: usize) -> Option<T>
         ensures { λ r. ⌜ BySome r (min (now (self .entry) .used) (length (now (area .entry))) ≤ place) (λ x. (place < min (now (self .entry) .used) (length (now (area .entry)))) × (x ≡ getD (now (area .entry)) place x)) ⌝ }
     {
-        if place < self.used && place < area.len() { Some(area[place]) } else { None }
+        if place < self.used && place < area.len() {
+            Some(area[place])
+        } else {
+            None
+        }
     }
 
     // Drops the entries from a mark on.

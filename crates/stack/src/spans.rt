@@ -18,7 +18,10 @@ pub impl Blank for Span as SpanBlank {
     ghost empty = { record { start = 0; length = 0 } };
 
     fn blank() -> Span {
-        Span { start: 0, length: 0 }
+        Span {
+            start: 0,
+            length: 0,
+        }
     }
 }
 
@@ -43,6 +46,9 @@ impl Span {
     {
         let start = least(self.start as usize, n);
         let length = least(self.length as usize, n - start);
-        Bounds { start, end: start + length }
+        Bounds {
+            start,
+            end: start + length,
+        }
     }
 }

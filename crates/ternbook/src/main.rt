@@ -15,8 +15,8 @@ use circuit_text::read;
 use machine::Machine;
 use refusal::Refusal;
 use refusal::RefusalFromText;
-use refutation_files::refute_files;
 use refutation_files::Verdict;
+use refutation_files::refute_files;
 use stack::Span;
 use std::env;
 use std::error::AnyError;
@@ -33,7 +33,10 @@ const LITERALS: u32 = 1_048_576;
 const PLACES: u32 = 65_536;
 
 // An entry of a cleared place area.
-const NO_SPAN: Span = Span { start: 0, length: 0 };
+const NO_SPAN: Span = Span {
+    start: 0,
+    length: 0,
+};
 
 // A line that opens a machine, and its file.
 #[derive(Clone, Copy)]

@@ -19,32 +19,32 @@ returns-in-Break-number-word c =
     let word = sym (c .cut .ensures .front) ∙ c .in-Continue-verb .ensures tt ∙ ap verb-text (c .in-Replay .is) in
     rw (c .from-residual-in-Break-number-word .ensures)
     (no-call (c .args .line .now) verb.Replay word
-      (λ a. c .in-Break-number-word .ensures tt (a .0) (a .2)
-        (c .cut-in-Replay .ensures .front ∙ ap (before 32) (c .cut .ensures .back ∙ a .4) ∙ joined 32 (decimal (a .0)) (a .1) (decimal-lacks (a .0) (a .2)) .0)))
+    (λ a. c .in-Break-number-word .ensures tt (a .0) (a .2)
+    (c .cut-in-Replay .ensures .front ∙ ap (before 32) (c .cut .ensures .back ∙ a .4) ∙ joined 32 (decimal (a .0)) (a .1) (decimal-lacks (a .0) (a .2)) .0)))
 
 pub returns-in-Break-name-2 : need.returns-in-Break-name-2
 returns-in-Break-name-2 c =
     let word = sym (c .cut .ensures .front) ∙ c .in-Continue-verb .ensures tt ∙ ap verb-text (c .in-Replay .is) in
     rw (c .from-residual-in-Break-name-2 .ensures)
     (no-call (c .args .line .now) verb.Replay word
-      (λ a. c .in-Break-name-2 .ensures tt
-        (subst Name (sym (c .cut-in-Replay .ensures .back ∙ ap (after 32) (c .cut .ensures .back ∙ a .4) ∙ joined 32 (decimal (a .0)) (a .1) (decimal-lacks (a .0) (a .2)) .1)) (a .3))))
+    (λ a. c .in-Break-name-2 .ensures tt
+    (subst Name (sym (c .cut-in-Replay .ensures .back ∙ ap (after 32) (c .cut .ensures .back ∙ a .4) ∙ joined 32 (decimal (a .0)) (a .1) (decimal-lacks (a .0) (a .2)) .1)) (a .3))))
 
 pub returns-in-Break-name-3 : need.returns-in-Break-name-3
 returns-in-Break-name-3 c =
     let word = sym (c .cut .ensures .front) ∙ c .in-Continue-verb .ensures tt ∙ ap verb-text (c .in-Refute .is) in
     rw (c .from-residual-in-Break-name-3 .ensures)
     (no-call (c .args .line .now) verb.Refute word
-      (λ a. c .in-Break-name-3 .ensures tt
-        (subst Name (sym (c .cut-in-Refute .ensures .front ∙ ap (before 32) (c .cut .ensures .back ∙ a .4) ∙ joined 32 (a .0) (a .1) (a .2 .1) .0)) (a .2))))
+    (λ a. c .in-Break-name-3 .ensures tt
+    (subst Name (sym (c .cut-in-Refute .ensures .front ∙ ap (before 32) (c .cut .ensures .back ∙ a .4) ∙ joined 32 (a .0) (a .1) (a .2 .1) .0)) (a .2))))
 
 pub returns-in-Break-name-4 : need.returns-in-Break-name-4
 returns-in-Break-name-4 c =
     let word = sym (c .cut .ensures .front) ∙ c .in-Continue-verb .ensures tt ∙ ap verb-text (c .in-Refute .is) in
     rw (c .from-residual-in-Break-name-4 .ensures)
     (no-call (c .args .line .now) verb.Refute word
-      (λ a. c .in-Break-name-4 .ensures tt
-        (subst Name (sym (c .cut-in-Refute .ensures .back ∙ ap (after 32) (c .cut .ensures .back ∙ a .4) ∙ joined 32 (a .0) (a .1) (a .2 .1) .1)) (a .3))))
+    (λ a. c .in-Break-name-4 .ensures tt
+    (subst Name (sym (c .cut-in-Refute .ensures .back ∙ ap (after 32) (c .cut .ensures .back ∙ a .4) ∙ joined 32 (a .0) (a .1) (a .2 .1) .1)) (a .3))))
 
 pub returns-in-Continue-name-4 : need.returns-in-Continue-name-4
 returns-in-Continue-name-4 c =
@@ -52,11 +52,12 @@ returns-in-Continue-name-4 c =
     let clauses = c .in-Continue-name-3 .ensures tt in
     let proof = c .in-Continue-name-4 .ensures tt in
     let first : Name (c .in-Continue-name-3 .field-0 .now) = subst Name (sym (clauses .0)) (clauses .1) in
-    let second : Name (c .in-Continue-name-4 .field-0 .now) = subst Name (sym (proof .0)) (proof .1) in
-    ((first, second),
-     is-pair (c .args .line .now) (codes "refute") (c .in-Continue-name-3 .field-0 .now) (c .in-Continue-name-4 .field-0 .now) word
-     (ap (before 32) (sym (c .cut .ensures .back)) ∙ sym (c .cut-in-Refute .ensures .front) ∙ sym (clauses .0))
-     (ap (after 32) (sym (c .cut .ensures .back)) ∙ sym (c .cut-in-Refute .ensures .back) ∙ sym (proof .0)) (second .0))
+    let second : Name (c .in-Continue-name-4 .field-0 .now) = subst Name (sym (proof .0)) (proof .1) in (
+      (first, second),
+      is-pair (c .args .line .now) (codes "refute") (c .in-Continue-name-3 .field-0 .now) (c .in-Continue-name-4 .field-0 .now) word
+          (ap (before 32) (sym (c .cut .ensures .back)) ∙ sym (c .cut-in-Refute .ensures .front) ∙ sym (clauses .0))
+          (ap (after 32) (sym (c .cut .ensures .back)) ∙ sym (c .cut-in-Refute .ensures .back) ∙ sym (proof .0)) (second .0),
+    )
 
 pub returns-in-Continue-name : need.returns-in-Continue-name
 returns-in-Continue-name c =
@@ -76,8 +77,9 @@ pub returns-in-Continue-name-2 : need.returns-in-Continue-name-2
 returns-in-Continue-name-2 c =
     let word = sym (c .cut .ensures .front) ∙ c .in-Continue-verb .ensures tt ∙ ap verb-text (c .in-Replay .is) in
     let file = c .in-Continue-name-2 .ensures tt in
-    let name : Name (c .in-Continue-name-2 .field-0 .now) = subst Name (sym (file .0)) (file .1) in
-    ((omega arith, name),
-     is-pair (c .args .line .now) (codes "replay") (decimal (c .in-Continue-number-word .field-0)) (c .in-Continue-name-2 .field-0 .now) word
-     (ap (before 32) (sym (c .cut .ensures .back)) ∙ sym (c .cut-in-Replay .ensures .front) ∙ c .in-Continue-number-word .ensures tt)
-     (ap (after 32) (sym (c .cut .ensures .back)) ∙ sym (c .cut-in-Replay .ensures .back) ∙ sym (file .0)) (name .0))
+    let name : Name (c .in-Continue-name-2 .field-0 .now) = subst Name (sym (file .0)) (file .1) in (
+      (omega arith, name),
+      is-pair (c .args .line .now) (codes "replay") (decimal (c .in-Continue-number-word .field-0)) (c .in-Continue-name-2 .field-0 .now) word
+          (ap (before 32) (sym (c .cut .ensures .back)) ∙ sym (c .cut-in-Replay .ensures .front) ∙ c .in-Continue-number-word .ensures tt)
+          (ap (after 32) (sym (c .cut .ensures .back)) ∙ sym (c .cut-in-Replay .ensures .back) ∙ sym (file .0)) (name .0),
+    )

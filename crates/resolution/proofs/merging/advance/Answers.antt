@@ -11,15 +11,15 @@ moves x y p q l r k a b c =
     ⊎-elim
     (λ e. skip-left e (a .skip e) (b .wait e) (c .left e))
     (λ n. ⊎-elim
-        (λ e. skip-right e (a .wait n e) (b .skip n e) (c .right e))
-        (λ m. ⊎-elim
-            (λ e. keep-both n m (omega arith) (omega arith) (a .low n m (omega arith)) (b .low n m (omega arith)) (c .both n m))
-            (λ o. ⊎-elim
-                (λ s. keep-left n m s (a .low n m (omega arith)) (b .high n m s) (c .both n m))
-                (λ s. keep-right n m s (a .high n m s) (b .low n m (omega arith)) (c .both n m))
-                o)
-            (cases-order x y))
-        (cases-eq y q))
+    (λ e. skip-right e (a .wait n e) (b .skip n e) (c .right e))
+    (λ m. ⊎-elim
+    (λ e. keep-both n m (omega arith) (omega arith) (a .low n m (omega arith)) (b .low n m (omega arith)) (c .both n m))
+    (λ o. ⊎-elim
+    (λ s. keep-left n m s (a .low n m (omega arith)) (b .high n m s) (c .both n m))
+    (λ s. keep-right n m s (a .high n m s) (b .low n m (omega arith)) (c .both n m))
+    o)
+    (cases-order x y))
+    (cases-eq y q))
     (cases-eq x p)
 
 pub returns : need.returns

@@ -8,7 +8,7 @@ abbrev pub Inv-loop-next : given.InvT-loop-next
 Inv-loop-next l =
     (l .i ≤ l .a .end) × (l .j ≤ l .b .end)
     × (length (rest (l .literals) (l .p) (l .q) (l .i) (l .a .end) (l .j) (l .b .end)) + l .entry .free
-        ≡ length (rest (l .literals) (l .p) (l .q) (l .entry .i) (l .a .end) (l .entry .j) (l .b .end)) + l .free)
+    ≡ length (rest (l .literals) (l .p) (l .q) (l .entry .i) (l .a .end) (l .entry .j) (l .b .end)) + l .free)
 
 abbrev pub μ-loop-next : given.MeasureT-loop-next
 μ-loop-next l = (l .a .end - l .i) + (l .b .end - l .j)

@@ -11,7 +11,7 @@ Inv-both l =
     (l .i ≤ l .a .end) × (l .j ≤ l .b .end) × (l .from ≤ l .at) × (l .at ≤ length (l .literals))
     × (take (l .from) (l .literals) ≡ take (l .from) (l .entry .literals))
     × (part (l .literals) (l .from) (l .at) ++ rest (l .entry .literals) (l .p) (l .q) (l .i) (l .a .end) (l .j) (l .b .end)
-        ≡ rest (l .entry .literals) (l .p) (l .q) (l .entry .i) (l .a .end) (l .entry .j) (l .b .end))
+    ≡ rest (l .entry .literals) (l .p) (l .q) (l .entry .i) (l .a .end) (l .entry .j) (l .b .end))
     × (drop (l .at) (l .literals) ≡ drop (l .at) (l .entry .literals))
 
 abbrev pub μ-both : given.MeasureT-both
@@ -22,7 +22,7 @@ Inv-loop-next l =
     (l .i ≤ l .a .end) × (l .j ≤ l .b .end) × (l .from ≤ l .at) × (l .at ≤ length (l .literals))
     × (take (l .from) (l .literals) ≡ take (l .from) (l .entry .literals))
     × (part (l .literals) (l .from) (l .at) ++ rest (l .entry .literals) (l .p) (l .q) (l .i) (l .a .end) (l .j) (l .b .end)
-        ≡ part (l .entry .literals) (l .from) (l .entry .at) ++ rest (l .entry .literals) (l .p) (l .q) (l .entry .i) (l .a .end) (l .entry .j) (l .b .end))
+    ≡ part (l .entry .literals) (l .from) (l .entry .at) ++ rest (l .entry .literals) (l .p) (l .q) (l .entry .i) (l .a .end) (l .entry .j) (l .b .end))
     × (l .entry .at ≤ l .at)
     × (drop (l .at) (l .literals) ≡ drop (l .at) (l .entry .literals))
 

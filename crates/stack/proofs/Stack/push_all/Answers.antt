@@ -11,7 +11,9 @@ pub returns : need.returns
 returns g c =
     let n = c .args .self .now .used in
     let xs = c .args .entries .now in
-    let area = c .args .area .now in
-    (omega arith, refl,
-     putMid-paste n (n + length xs - n) area (c .copy-from-slice .last .self) xs (length xs) (c .copy-from-slice .ensures .after) (omega arith) refl
-     ∙ ap (λ z. (take n area ++ z) ++ drop (n + length xs) area) (take-all (length xs) xs (omega arith)))
+    let area = c .args .area .now in (
+      omega arith,
+      refl,
+      putMid-paste n (n + length xs - n) area (c .copy-from-slice .last .self) xs (length xs) (c .copy-from-slice .ensures .after) (omega arith) refl
+          ∙ ap (λ z. (take n area ++ z) ++ drop (n + length xs) area) (take-all (length xs) xs (omega arith)),
+    )

@@ -52,5 +52,8 @@ returns c =
     let k = ap length (h .4) ∙ ap (λ z. length (clauseAt (own t (c .args .literals .now) (c .args .spans .now)) (z - 1))) e in
     let some : 0 < length (own (c .args .self .now) (c .args .literals .now) (c .args .spans .now)) = omega arith in
     let none : length (clauseAt (own (c .args .self .now) (c .args .literals .now) (c .args .spans .now)) (length (own (c .args .self .now) (c .args .literals .now) (c .args .spans .now)) - 1)) ≡ 0 = omega arith in
-    record { answer = ap (λ z. Ok (record { clauses = z })) e ∙ ended-yes ds some none;
-      refutation = c .abandon .ensures; refuted = λ list f. refutes ds list some none f }
+    record {
+      answer = ap (λ z. Ok (record { clauses = z })) e ∙ ended-yes ds some none;
+      refutation = c .abandon .ensures;
+      refuted = λ list f. refutes ds list some none f;
+    }

@@ -36,16 +36,24 @@ returns-in-rest c =
     let t = c .args .self .now in
     let ls = c .args .literals .now in
     let ps = c .args .spans .now in
-    record { step = refused t ls ps _ NoClause (resolves-left (own t ls ps) (c .args .left) (c .args .right) (c .args .pivot) (t .literals .used) (length ls) (t .spans .used) (length ps) (c .in-rest .ensures tt));
-      spent = refl; carries = λ list _. same list (own t ls ps); law = law }
+    record {
+      step = refused t ls ps _ NoClause (resolves-left (own t ls ps) (c .args .left) (c .args .right) (c .args .pivot) (t .literals .used) (length ls) (t .spans .used) (length ps) (c .in-rest .ensures tt));
+      spent = refl;
+      carries = λ list _. same list (own t ls ps);
+      law = law;
+    }
 
 pub returns-in-rest-clause : need.returns-in-rest-clause
 returns-in-rest-clause c =
     let t = c .args .self .now in
     let ls = c .args .literals .now in
     let ps = c .args .spans .now in
-    record { step = refused t ls ps _ NoClause (resolves-right (own t ls ps) (c .args .left) (c .args .right) (c .args .pivot) (t .literals .used) (length ls) (t .spans .used) (length ps) (c .in-rest-clause .ensures tt));
-      spent = refl; carries = λ list _. same list (own t ls ps); law = law }
+    record {
+      step = refused t ls ps _ NoClause (resolves-right (own t ls ps) (c .args .left) (c .args .right) (c .args .pivot) (t .literals .used) (length ls) (t .spans .used) (length ps) (c .in-rest-clause .ensures tt));
+      spent = refl;
+      carries = λ list _. same list (own t ls ps);
+      law = law;
+    }
 
 pub returns-then-not-has : need.returns-then-not-has
 returns-then-not-has c =
@@ -55,8 +63,12 @@ returns-then-not-has c =
     let a = c .in-Some .ensures tt in
     let b = c .in-Some-clause .ensures tt in
     let x = ap (contains (c .args .pivot)) (sym (a .4)) ∙ sym (c .if-not-has .ensures tt) in
-    record { step = refused t ls ps _ NoPivot (resolves-no-left (own t ls ps) (c .args .left) (c .args .right) (c .args .pivot) (t .literals .used) (length ls) (t .spans .used) (length ps) (a .0) (b .0) x);
-      spent = refl; carries = λ list _. same list (own t ls ps); law = law }
+    record {
+      step = refused t ls ps _ NoPivot (resolves-no-left (own t ls ps) (c .args .left) (c .args .right) (c .args .pivot) (t .literals .used) (length ls) (t .spans .used) (length ps) (a .0) (b .0) x);
+      spent = refl;
+      carries = λ list _. same list (own t ls ps);
+      law = law;
+    }
 
 pub returns-then-not-has-2 : need.returns-then-not-has-2
 returns-then-not-has-2 c =
@@ -66,8 +78,12 @@ returns-then-not-has-2 c =
     let a = c .in-Some .ensures tt in
     let b = c .in-Some-clause .ensures tt in
     let y = ap (contains (denial (c .args .pivot))) (sym (b .4)) ∙ ap (λ z. contains z (part ls (c .in-Some-clause .b .start) (c .in-Some-clause .b .end))) (sym (c .deny-against .ensures)) ∙ sym (c .if-not-has-2 .ensures tt) in
-    record { step = refused t ls ps _ NoPivot (resolves-no-right (own t ls ps) (c .args .left) (c .args .right) (c .args .pivot) (t .literals .used) (length ls) (t .spans .used) (length ps) (a .0) (b .0) y);
-      spent = refl; carries = λ list _. same list (own t ls ps); law = law }
+    record {
+      step = refused t ls ps _ NoPivot (resolves-no-right (own t ls ps) (c .args .left) (c .args .right) (c .args .pivot) (t .literals .used) (length ls) (t .spans .used) (length ps) (a .0) (b .0) y);
+      spent = refl;
+      carries = λ list _. same list (own t ls ps);
+      law = law;
+    }
 
 pub returns-then-not-has-place : need.returns-then-not-has-place
 returns-then-not-has-place c =
@@ -78,8 +94,12 @@ returns-then-not-has-place c =
     let b = c .in-Some-clause .ensures tt in
     let x = ap (contains (c .args .pivot)) (sym (a .4)) ∙ sym (c .if-not-has .ensures tt) in
     let y = ap (contains (denial (c .args .pivot))) (sym (b .4)) ∙ ap (λ z. contains z (part ls (c .in-Some-clause .b .start) (c .in-Some-clause .b .end))) (sym (c .deny-against .ensures)) ∙ sym (c .if-not-has-2 .ensures tt) in
-    record { step = refused t ls ps _ Full (resolves-place (own t ls ps) (c .args .left) (c .args .right) (c .args .pivot) (t .literals .used) (length ls) (t .spans .used) (length ps) (a .0) (b .0) x y (sym (c .if-not-has-place .ensures tt)));
-      spent = refl; carries = λ list _. same list (own t ls ps); law = law }
+    record {
+      step = refused t ls ps _ Full (resolves-place (own t ls ps) (c .args .left) (c .args .right) (c .args .pivot) (t .literals .used) (length ls) (t .spans .used) (length ps) (a .0) (b .0) x y (sym (c .if-not-has-place .ensures tt)));
+      spent = refl;
+      carries = λ list _. same list (own t ls ps);
+      law = law;
+    }
 
 pub returns-then-not-has-room : need.returns-then-not-has-room
 returns-then-not-has-room c =
@@ -92,8 +112,12 @@ returns-then-not-has-room c =
     let y = ap (contains (denial (c .args .pivot))) (sym (b .4)) ∙ ap (λ z. contains z (part ls (c .in-Some-clause .b .start) (c .in-Some-clause .b .end))) (sym (c .deny-against .ensures)) ∙ sym (c .if-not-has-2 .ensures tt) in
     let q = rest-resolvent ls _ _ (c .args .pivot) (c .deny-against .result) (c .in-Some .a .start) (c .in-Some .a .end) (c .in-Some-clause .b .start) (c .in-Some-clause .b .end) (a .4) (b .4) (c .deny-against .ensures) in
     let r = ap (λ z. leb (t .literals .used + length z) (length ls)) (sym q) ∙ sym (c .if-not-has-room .ensures tt) in
-    record { step = refused t ls ps _ Full (resolves-room (own t ls ps) (c .args .left) (c .args .right) (c .args .pivot) (t .literals .used) (length ls) (t .spans .used) (length ps) (a .0) (b .0) x y r);
-      spent = refl; carries = λ list _. same list (own t ls ps); law = law }
+    record {
+      step = refused t ls ps _ Full (resolves-room (own t ls ps) (c .args .left) (c .args .right) (c .args .pivot) (t .literals .used) (length ls) (t .spans .used) (length ps) (a .0) (b .0) x y r);
+      spent = refl;
+      carries = λ list _. same list (own t ls ps);
+      law = law;
+    }
 
 pub note-requires : need.note-requires
 note-requires c κs =
@@ -126,9 +150,11 @@ returns c =
     let em = c .join-self .ensures .after ∙ ap (λ z. placed (t .literals .used) z ls) q in
     let eq = c .note .ensures .spans ∙ ap (λ k. placed (t .spans .used) (record { start = t .literals .used; length = k } ∷ []) ps) z in
     let w = resolves-done ds (c .args .left) (c .args .right) (c .args .pivot) (t .literals .used) (length ls) (t .spans .used) (length ps) (a .0) (b .0) x y f r in
-    record { step = made t (c .note .last .self) ls (c .join-self .last .literals) ps (c .note .last .spans) cl eu em eq h (p .1) _ _ w (ap Ok n);
+    record {
+      step = made t (c .note .last .self) ls (c .join-self .last .literals) ps (c .note .last .spans) cl eu em eq h (p .1) _ _ w (ap Ok n);
       spent = ap (λ u. u .spent) eu;
       carries = λ list. carried t (c .note .last .self) ls (c .join-self .last .literals) ps (c .note .last .spans) cl eu em eq h (p .1) list
-        (λ s. implied-resolvent list (clauseAt ds (c .args .left)) (clauseAt ds (c .args .right)) (c .args .pivot) (all-getD (Implied list) ds (c .args .left) [] (a .0) s) (all-getD (Implied list) ds (c .args .right) [] (b .0) s))
-        (λ _ s. rising-resolvent (clauseAt ds (c .args .left)) (clauseAt ds (c .args .right)) (c .args .pivot) (all-getD Rising ds (c .args .left) [] (a .0) s) (all-getD Rising ds (c .args .right) [] (b .0) s));
-      law = law }
+          (λ s. implied-resolvent list (clauseAt ds (c .args .left)) (clauseAt ds (c .args .right)) (c .args .pivot) (all-getD (Implied list) ds (c .args .left) [] (a .0) s) (all-getD (Implied list) ds (c .args .right) [] (b .0) s))
+          (λ _ s. rising-resolvent (clauseAt ds (c .args .left)) (clauseAt ds (c .args .right)) (c .args .pivot) (all-getD Rising ds (c .args .left) [] (a .0) s) (all-getD Rising ds (c .args .right) [] (b .0) s));
+      law = law;
+    }

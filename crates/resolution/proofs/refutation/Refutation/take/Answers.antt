@@ -32,8 +32,11 @@ returns-then-number-count g c =
     let ps = c .args .spans .now in
     let cs = g .L·ClauseList .clauses (c .args .list .now) ls ps in
     let h = c .count .ensures in
-    record { step = refused t ls ps _ NoClause (open-takes t cs (c .args .number) ls ps _ (c .if-self .left) (takes-missing cs (c .args .number) (t .literals .used) (length ls) (t .spans .used) (length ps) (omega arith)));
-      spent = refl; carries = λ _. same cs (own t ls ps) }
+    record {
+      step = refused t ls ps _ NoClause (open-takes t cs (c .args .number) ls ps _ (c .if-self .left) (takes-missing cs (c .args .number) (t .literals .used) (length ls) (t .spans .used) (length ps) (omega arith)));
+      spent = refl;
+      carries = λ _. same cs (own t ls ps);
+    }
 
 pub returns-then-not-has-place : need.returns-then-not-has-place
 returns-then-not-has-place g c =
@@ -42,8 +45,11 @@ returns-then-not-has-place g c =
     let ps = c .args .spans .now in
     let cs = g .L·ClauseList .clauses (c .args .list .now) ls ps in
     let h = c .count .ensures in
-    record { step = refused t ls ps _ Full (open-takes t cs (c .args .number) ls ps _ (c .if-self .left) (takes-place cs (c .args .number) (t .literals .used) (length ls) (t .spans .used) (length ps) (omega arith) (sym (c .if-not-has-place .ensures tt))));
-      spent = refl; carries = λ _. same cs (own t ls ps) }
+    record {
+      step = refused t ls ps _ Full (open-takes t cs (c .args .number) ls ps _ (c .if-self .left) (takes-place cs (c .args .number) (t .literals .used) (length ls) (t .spans .used) (length ps) (omega arith) (sym (c .if-not-has-place .ensures tt))));
+      spent = refl;
+      carries = λ _. same cs (own t ls ps);
+    }
 
 -- the refutation with another top of its literals
 abbrev topped : Refutation → ℕ → Refutation
@@ -59,8 +65,11 @@ returns-then-not-copy g c =
     let h = c .if-not-copy .ensures tt in
     let eu = ap (topped t) (h .1) in
     let w = open-takes t cs (c .args .number) ls ps _ (c .if-self .left) (takes-room cs (c .args .number) (t .literals .used) (length ls) (t .spans .used) (length ps) (omega arith) (h .0 (omega arith))) in
-    record { step = refused-as t ls ps _ Full w (topped t (c .copy .last .stack .used)) (c .copy .last .literals) eu (h .2);
-      spent = refl; carries = λ _. same-as cs t (topped t (c .copy .last .stack .used)) ls (c .copy .last .literals) ps eu (h .2) }
+    record {
+      step = refused-as t ls ps _ Full w (topped t (c .copy .last .stack .used)) (c .copy .last .literals) eu (h .2);
+      spent = refl;
+      carries = λ _. same-as cs t (topped t (c .copy .last .stack .used)) ls (c .copy .last .literals) ps eu (h .2);
+    }
 
 pub note-requires : need.note-requires
 note-requires g c κs =
@@ -84,7 +93,9 @@ returns g c =
     let eu = c .note .ensures .refutation ∙ ap (λ k. record { floor = t .floor; first = t .first; literals = record { used = k }; spans = record { used = t .spans .used + 1 }; spent = t .spent }) (h .1 .1) in
     let eq = c .note .ensures .spans ∙ ap (λ k. placed (t .spans .used) (record { start = t .literals .used; length = k } ∷ []) ps) z in
     let w = open-takes t cs (c .args .number) ls ps _ (c .if-self .left) (takes-done cs (c .args .number) (t .literals .used) (length ls) (t .spans .used) (length ps) (h .0) b (h .1 .0)) in
-    record { step = made t (c .note .last .self) ls (c .copy .last .literals) ps (c .note .last .spans) cl eu (h .1 .2) eq (h .1 .0) (p .1) _ _ w (ap Ok n);
+    record {
+      step = made t (c .note .last .self) ls (c .copy .last .literals) ps (c .note .last .spans) cl eu (h .1 .2) eq (h .1 .0) (p .1) _ _ w (ap Ok n);
       spent = ap (λ u. u .spent) eu;
       carries = carried t (c .note .last .self) ls (c .copy .last .literals) ps (c .note .last .spans) cl eu (h .1 .2) eq (h .1 .0) (p .1) cs
-        (λ _. implied-member cs (c .args .number) (h .0)) (λ a _. all-getD Rising cs (c .args .number) [] (h .0) a) }
+          (λ _. implied-member cs (c .args .number) (h .0)) (λ a _. all-getD Rising cs (c .args .number) [] (h .0) a);
+    }

@@ -15,9 +15,12 @@ returns-then-not-proper c all =
 pub loop-span-again : need.loop-span-again
 loop-span-again c =
     subst (All (Proper (c .args .literals .now))) (sym (take-more (c .args .spans .now) (c .loop-span .span-index) (record { start = 0; length = 0 }) (c .loop-span-test .taken)))
-      (all-push (Proper (c .args .literals .now)) (take (c .loop-span .span-index) (c .args .spans .now)) _ (c .loop-span .inv) (c .if-not-proper .ensures tt))
+    (all-push (Proper (c .args .literals .now)) (take (c .loop-span .span-index) (c .args .spans .now)) _ (c .loop-span .inv) (c .if-not-proper .ensures tt))
 
 pub returns : need.returns
-returns c =
-    (refl, refl, proper-rising (c .args .literals .now) (c .args .spans .now)
-      (subst (All (Proper (c .args .literals .now))) (take-all (c .loop-span .span-index) (c .args .spans .now) (c .loop-span-test .left)) (c .loop-span .inv)))
+returns c = (
+  refl,
+  refl,
+  proper-rising (c .args .literals .now) (c .args .spans .now)
+      (subst (All (Proper (c .args .literals .now))) (take-all (c .loop-span .span-index) (c .args .spans .now) (c .loop-span-test .left)) (c .loop-span .inv)),
+)

@@ -20,8 +20,8 @@ returns c =
     let p = getD ps (c .args .number) (record { start = 0; length = 0 }) in
     let h : c .args .number < length (c .args .self .now .spans .now) = omega arith in
     copied (runs ls ps) (c .args .number) (c .args .stack .now .used) (c .push-all .last .self .used) (c .args .literals .now) (c .push-all .last .area) (c .push-all .result) _
-      (simp length-map h)
-      (runs-at ls ps (c .args .number) (record { start = 0; length = 0 }) h
-       ∙ ap (λ l. run l p) (sym (take-all (length ls) ls (omega arith)))
-       ∙ sym (c .bounds-start .ensures .marks ls (omega arith)))
-      (c .push-all .ensures)
+    (simp length-map h)
+    (runs-at ls ps (c .args .number) (record { start = 0; length = 0 }) h
+    ∙ ap (λ l. run l p) (sym (take-all (length ls) ls (omega arith)))
+    ∙ sym (c .bounds-start .ensures .marks ls (omega arith)))
+    (c .push-all .ensures)

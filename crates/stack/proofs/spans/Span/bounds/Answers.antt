@@ -22,19 +22,21 @@ marked : (area : List ℕ) (n : ℕ) (p : Span) (a b : ℕ) → n ≤ length are
 unfolding part
 marked area n p a b h e f =
     sym (same-lists _ _ (simp (length-take, length-drop) (mins (p .length) (p .start) n (length area) a b h e f)) (λ k d l.
-      let m : k < min (p .length) (min n (length area) - p .start) = simp (length-take, length-drop) at l in
-      let v : k < p .length = omega arith in
-      let u : k < n - p .start = omega arith in
-      let q : a ≡ p .start = omega arith in
-      let w : k < b = omega arith in
-      getD-take (p .length) (drop (p .start) (take n area)) k d (omega arith)
-      ∙ getD-drop (p .start) (take n area) k d
-      ∙ getD-take n area (p .start + k) d (omega arith)
-      ∙ ap (λ s. getD area (s + k) d) (sym q)
-      ∙ sym (getD-drop a area k d)
-      ∙ sym (getD-take (a + b - a) (drop a area) k d (omega arith))))
+    let m : k < min (p .length) (min n (length area) - p .start) = simp (length-take, length-drop) at l in
+    let v : k < p .length = omega arith in
+    let u : k < n - p .start = omega arith in
+    let q : a ≡ p .start = omega arith in
+    let w : k < b = omega arith in
+    getD-take (p .length) (drop (p .start) (take n area)) k d (omega arith)
+    ∙ getD-drop (p .start) (take n area) k d
+    ∙ getD-take n area (p .start + k) d (omega arith)
+    ∙ ap (λ s. getD area (s + k) d) (sym q)
+    ∙ sym (getD-drop a area k d)
+    ∙ sym (getD-take (a + b - a) (drop a area) k d (omega arith))))
 
 pub returns : need.returns
 returns c =
-    record { order = (omega arith, omega arith);
-      marks = λ area h. marked area (c .args .n) (c .args .self) (c .least-start .result) (c .least-length .result) h (c .least-start .ensures) (c .least-length .ensures) }
+    record {
+      order = (omega arith, omega arith);
+      marks = λ area h. marked area (c .args .n) (c .args .self) (c .least-start .result) (c .least-length .result) h (c .least-start .ensures) (c .least-length .ensures);
+    }

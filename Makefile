@@ -8,6 +8,7 @@ demo:
 test:
 	rt ci
 	tests/status
+	tests/must-not-build/run
 
 bench:
 	rt check ternbook

@@ -13,7 +13,7 @@ ghost use Rattle.resolution.specs.Merging.{rest, Moves, LeftOf, RightOf, KeptO
 use stack::Bounds;
 
 // Whether a clause has a literal.
-pub fn has(literals: &[u32], clause: Bounds, literal: u32) -> bool
+pub(super) fn has(literals: &[u32], clause: Bounds, literal: u32) -> bool
     requires order { ⌜ clause .start ≤ clause .end ⌝ }
     requires within { ⌜ clause .end ≤ length (now literals) ⌝ }
     ensures { λ r. ⌜ r ≡ contains literal (part (now (literals .entry)) (clause .start) (clause .end)) ⌝ }
@@ -174,7 +174,7 @@ fn at_most(literals: &[u32], a: Bounds, b: Bounds, p: u32, q: u32, most: usize) 
 }
 
 // Whether the resolvent fits from a place on. It is counted only where the room is short of both clauses together.
-pub fn has_room(literals: &[u32], from: usize, a: Bounds, b: Bounds, p: u32, q: u32) -> bool
+pub(super) fn has_room(literals: &[u32], from: usize, a: Bounds, b: Bounds, p: u32, q: u32) -> bool
     requires left { ⌜ (a .start ≤ a .end) × (a .end ≤ length (now literals)) ⌝ }
     requires right { ⌜ (b .start ≤ b .end) × (b .end ≤ length (now literals)) ⌝ }
     ensures { λ r. ⌜ r ≡ leb (from + length (rest (now (literals .entry)) p q (a .start) (a .end) (b .start) (b .end))) (length (now (literals .entry))) ⌝ }
@@ -191,7 +191,7 @@ pub fn has_room(literals: &[u32], from: usize, a: Bounds, b: Bounds, p: u32, q: 
 }
 
 // Writes the resolvent from a place on, and answers where it ends.
-pub fn join(literals: &mut [u32], from: usize, a: Bounds, b: Bounds, p: u32, q: u32) -> usize
+pub(super) fn join(literals: &mut [u32], from: usize, a: Bounds, b: Bounds, p: u32, q: u32) -> usize
     requires left { ⌜ (a .start ≤ a .end) × (a .end ≤ from) ⌝ }
     requires right { ⌜ (b .start ≤ b .end) × (b .end ≤ from) ⌝ }
     requires room { ⌜ from + length (rest (now literals) p q (a .start) (a .end) (b .start) (b .end)) ≤ length (now literals) ⌝ }

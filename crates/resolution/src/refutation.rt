@@ -66,7 +66,7 @@ impl Refuted {
 }
 
 // Whether a refutation may work in areas of these lengths.
-pub fn fitting(literals: &[u32], spans: &[Span]) -> bool
+pub(super) fn fitting(literals: &[u32], spans: &[Span]) -> bool
     ensures { λ r. ⌜ r ≡ admitted (length (now (literals .entry))) (length (now (spans .entry))) ⌝ }
 {
     literals.len() <= 1048576 && spans.len() <= 65536

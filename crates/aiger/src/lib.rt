@@ -1,4 +1,6 @@
 // The numbers of a circuit, and the questions put to them by every reader.
+#![tactic(auto)]
+
 ghost use Rattle.std.specs.Prelude.{◌≡◌};
 ghost use Rattle.aiger.specs.Numbers.{admitted};
 

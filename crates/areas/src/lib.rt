@@ -1,4 +1,6 @@
 // Work areas that a caller lends, and guards that clear them when they go.
+#![tactic(auto)]
+
 ghost use Rattle.std.specs.Prelude.{◌≡◌, length, replicate};
 
 // An entry of a work area, with the value that a cleared entry has.

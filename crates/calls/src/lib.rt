@@ -1,4 +1,6 @@
 // The calls of the program, one a line, and the text of their answers.
+#![tactic(auto)]
+
 mod answer;
 mod call;
 mod clause_line;

@@ -1,4 +1,6 @@
 // Certificates: their records, and the check of a counterexample.
+#![tactic(auto)]
+
 ghost use Rattle.std.specs.Prelude.{◌≡◌, ℕ, ◌<◌, ◌≤◌, List, length, replicate, Ok};
 ghost use Rattle.machine.specs.Meaning.{Meaning};
 ghost use Rattle.certificate.specs.Counterexamples.{Counterexample, Shows};

@@ -1,4 +1,6 @@
 // The check of a certificate for a rule of a machine.
+#![tactic(auto)]
+
 ghost use Rattle.std.specs.Prelude.{◌≡◌, ℕ, ◌+◌, length, Ok};
 ghost use Rattle.opening.specs.declared.opening.Claim.{Claim as ClaimOf};
 ghost use Rattle.opening.specs.Views.{contents};

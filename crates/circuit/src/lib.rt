@@ -1,4 +1,6 @@
 // Circuits of gates as rule machines: the numbers that a circuit is set to, and what it means.
+#![tactic(auto)]
+
 ghost use Rattle.std.specs.Prelude.{◌≡◌, take, MatchResult};
 ghost use Rattle.aiger.specs.Numbers.{Good, needed};
 ghost use Rattle.circuit.specs.Admission.{judged, smallest_header, smallest_area};

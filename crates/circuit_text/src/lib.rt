@@ -1,4 +1,6 @@
 // Reads a circuit from AIGER text into an area of numbers that a caller lends.
+#![tactic(auto)]
+
 ghost use Rattle.std.specs.Prelude.{◌≡◌, ℕ, List, length, replicate, IfOk, Ok, Err, MatchResult};
 ghost use Rattle.aiger.specs.Numbers.{Good};
 ghost use Rattle.circuit_text.specs.Texts.{circuit_of, answer_of, area_of, Fills};

@@ -1,4 +1,6 @@
 // Numbers in decimal, as a text has them.
+#![tactic(auto)]
+
 ghost use Rattle.std.specs.Prelude.{◌≡◌, ℕ, ◌≤◌, length, drop, Some};
 ghost use Rattle.decimal.specs.Number.{leading, fitting, plain, number_of, Number};
 

@@ -1,4 +1,6 @@
 // Dockets: what the lawful certificates handed in have shown of a machine's rules.
+#![tactic(auto)]
+
 ghost use Rattle.std.specs.Prelude.{◌≡◌, List, [], length, replicate};
 ghost use Rattle.docket.specs.Books.{Sound, answer, after, accounted};
 ghost use Rattle.docket.specs.Calls.{Made, handing, look_up, tally, strike};

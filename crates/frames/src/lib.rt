@@ -1,4 +1,6 @@
 // Frames of clauses on two stacks over lent areas.
+#![tactic(auto)]
+
 ghost use Rattle.std.specs.Prelude.{◌≡◌};
 ghost use Rattle.frames.specs.Held.{before_frame, open_clause};
 ghost use Rattle.frames.specs.Writes.{Empty};

@@ -1,4 +1,6 @@
 // The opening of a certificate: its claim and, of a trace, the frames.
+#![tactic(auto)]
+
 ghost use Rattle.std.specs.Prelude.{◌≡◌, length};
 ghost use Rattle.certificate.specs.Verdict.{at_offset};
 ghost use Rattle.opening.specs.Steps.{room_in};

@@ -1,4 +1,6 @@
 // Openings of certificates and questions, worked out by hand: tests alone.
+#![tactic(auto)]
+
 #[cfg(test)]
 mod lists;
 #[cfg(test)]

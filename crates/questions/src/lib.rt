@@ -1,4 +1,6 @@
 // The questions of a trace of frames, as lists of clauses.
+#![tactic(auto)]
+
 mod closing;
 mod framed;
 mod list;

@@ -1,4 +1,6 @@
 // What every layer can refuse, and what a refusal tells.
+#![tactic(auto)]
+
 ghost use Rattle.std.specs.Prelude.{◌≡◌};
 ghost use Rattle.refusal.specs.Numbers.{told};
 ghost use Rattle.refusal.specs.declared.faults.CertificateFault.TheVariants.{Refutation as OfRefutation};

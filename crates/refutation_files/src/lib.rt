@@ -1,4 +1,6 @@
 // The two files of a lone refutation: a list of clauses, and the steps that refute it.
+#![tactic(auto)]
+
 mod checking;
 mod clause_file;
 mod clauses;

@@ -1,4 +1,6 @@
 // A whole refutation in one call.
+#![tactic(auto)]
+
 ghost use Rattle.std.specs.Prelude.{◌≡◌, ℕ, Bool, true, false, List, [], length, if◌then◌else◌, OnOk};
 ghost use Rattle.resolution.specs.Clauses.{Unsat};
 ghost use Rattle.resolution.specs.Outcomes.{admitted, granted};

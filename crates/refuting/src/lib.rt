@@ -1,4 +1,6 @@
 // One refutation of a question, read from the records of a certificate.
+#![tactic(auto)]
+
 ghost use Rattle.std.specs.Prelude.{◌≡◌, ◌+◌, true, length, Ok, OnOk};
 ghost use Rattle.resolution.specs.States.{own, fresh, Standing};
 ghost use Rattle.refuting.specs.declared.Turn.TheVariants.{End};

@@ -1,4 +1,6 @@
 // Literals, clauses, lists of clauses, and refutations by resolution.
+#![tactic(auto)]
+
 ghost use Rattle.std.specs.Prelude.{◌≡◌};
 ghost use Rattle.resolution.specs.Clauses.{denial};
 

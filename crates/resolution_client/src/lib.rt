@@ -1,4 +1,6 @@
 // How a caller holds a refutation under way: whatever comes of its steps, it ends it.
+#![tactic(auto)]
+
 ghost use Rattle.std.specs.Prelude.{◌≡◌, length, if◌then◌else◌, Ok, Err};
 ghost use Rattle.refusal.specs.declared.faults.DocketFault.TheVariants.{UnfitArea};
 ghost use Rattle.refusal.specs.declared.faults.Refusal.TheVariants.{Docket};

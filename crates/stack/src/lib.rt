@@ -1,4 +1,6 @@
 // Stacks of entries in lent slices, and the spans that mark out clauses on a stack of literals.
+#![tactic(auto)]
+
 ghost use Rattle.std.specs.Prelude.{◌≡◌, ℕ, ◌+◌, ◌-◌, ◌<◌, ◌≤◌, min, List, [], ◌∷◌, length, MatchOption, slice_index_or, slice_range};
 ghost use Rattle.stack.specs.Pushes.{PushedAs};
 

@@ -1,4 +1,6 @@
 // Step tables as rule machines: the bytes that a table is read from, and what it means.
+#![tactic(auto)]
+
 ghost use Rattle.std.specs.Prelude.{◌≡◌, MatchResult};
 ghost use Rattle.table_format.specs.Tables.{Encodes, table_of};
 ghost use Rattle.table_format.specs.Questions.{read};

@@ -1,4 +1,6 @@
 // The bytes of a step table: the questions that a reader puts to them, and what they mean.
+#![tactic(auto)]
+
 ghost use Rattle.std.specs.Prelude.{◌≡◌, MatchResult, OnOk};
 ghost use Rattle.table_format.specs.Tables.{Encodes, Good};
 ghost use Rattle.table_format.specs.Questions.{read};

@@ -1,4 +1,6 @@
 // The program: carries out calls, one a line, and prints each with its answer.
+#![tactic(auto)]
+
 use anyhow::anyhow;
 use calls::{Lengths, Lines};
 use loading::{LITERALS, PLACES, load};

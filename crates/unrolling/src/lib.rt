@@ -1,4 +1,6 @@
 // Unrollings of a machine, and the questions of an induction, as lists of clauses.
+#![tactic(auto)]
+
 mod induction;
 mod pushing;
 mod question;

@@ -8,7 +8,7 @@ pub trait Blank: Copy {
     ghost empty: { Self };
 
     fn blank() -> Self
-        ensures { result ≡ empty };
+        ensures { result ≡ Self.empty };
 }
 
 impl Blank for u32 {
@@ -29,7 +29,7 @@ impl Blank for u8 {
 
 // Sets every entry to its cleared value.
 pub fn clear<T: Blank>(area: &mut [T])
-    ensures { area.new ≡ replicate (length area.old) empty }
+    ensures { area.new ≡ replicate (length area.old) T.empty }
 {
     let blank = T::blank();
     for entry in area.iter_mut() {
@@ -42,7 +42,7 @@ pub struct Cleared<'a, T: Blank>(pub &'a mut [T]);
 
 impl<T: Blank> Drop for Cleared<'_, T> {
     fn drop(self)
-        ensures { self.exit.0.now ≡ replicate (length self.entry.0.now) empty }
+        ensures { self.exit.0.now ≡ replicate (length self.entry.0.now) T.empty }
     {
         clear(self.0);
         let Cleared(_) = self;

@@ -12,21 +12,21 @@ too_large text at end value l lo hi inv big =
     let step = ap (value_on value) (leading_more text end l lo hi) in
     omega (arith, step, value_grows (value * 10 + (get_or text end 0 - 48)) (leading (drop (end + 1) text)))
 
-pub returns-in-err-tens : goal.returns-in-err-tens
-returns-in-err-tens c =
+pub returns-in_err-tens : goal.returns-in_err-tens
+returns-in_err-tens c =
     let text = c.args.text.now in
     let end = c.loop-end.end in
-    let big : 2 ^ 32 ≤ c.loop-end.value * 10 + (get_or text end 0 - 48) = omega (arith, c.in-err-tens.ensures) in
-    rw c.from-residual.ensures (fitting_none (leading (drop c.args.at text))
+    let big : 2 ^ 32 ≤ c.loop-end.value * 10 + (get_or text end 0 - 48) = omega (arith, c.in_err-tens.ensures) in
+    rw c.from_residual.ensures (fitting_none (leading (drop c.args.at text))
     (too_large text c.args.at end c.loop-end.value (omega arith) (omega arith) (omega arith) c.loop-end.invariant.3 big))
 
-pub returns-in-err-value : goal.returns-in-err-value
-returns-in-err-value c =
+pub returns-in_err-value : goal.returns-in_err-value
+returns-in_err-value c =
     let text = c.args.text.now in
     let end = c.loop-end.end in
     let big : 2 ^ 32 ≤ c.loop-end.value * 10 + (get_or text end 0 - 48) =
-    omega (arith, c.in-ok-tens.ensures, c.from.ensures, c.in-err-value.ensures) in
-    rw c.from-residual-in-err-value.ensures (fitting_none (leading (drop c.args.at text))
+    omega (arith, c.in_ok-tens.ensures, c.from.ensures, c.in_err-value.ensures) in
+    rw c.from_residual-in_err-value.ensures (fitting_none (leading (drop c.args.at text))
     (too_large text c.args.at end c.loop-end.value (omega arith) (omega arith) (omega arith) c.loop-end.invariant.3 big))
 
 pub loop-end-preserved : goal.loop-end-preserved
@@ -35,11 +35,11 @@ loop-end-preserved c =
     let end = c.loop-end.end in
     let more = leading_more text end (omega arith) (omega arith) (omega arith) in
     let step : value_on c.loop-end.value (leading (drop end text)) ≡ value_on (c.loop-end.value * 10 + (get_or text end 0 - 48)) (leading (drop (end + 1) text)) = ap (value_on c.loop-end.value) more in
-    let e : c.in-ok-value.value ≡ c.loop-end.value * 10 + (get_or text end 0 - 48) =
-    omega (arith, c.in-ok-tens.ensures, c.from.ensures, c.in-ok-value.ensures) in (
+    let e : c.in_ok-value.value ≡ c.loop-end.value * 10 + (get_or text end 0 - 48) =
+    omega (arith, c.in_ok-tens.ensures, c.from.ensures, c.in_ok-value.ensures) in (
       omega arith,
       omega arith,
-      omega (arith, c.in-ok-value.ensures),
+      omega (arith, c.in_ok-value.ensures),
       rw e (sym step ∙ c.loop-end.invariant.3),
       omega (arith, ap length more, c.loop-end.invariant.4),
     )

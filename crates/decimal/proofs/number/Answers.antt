@@ -40,22 +40,22 @@ returns-then-at-text c =
     let e = clauses (drop c.args.at c.args.text.now) None (past c.args.at c.args.text.now c.if-at-text.true) in
     record { value = e.0; written = e.1; reads = e.2 }
 
-pub returns-in-err-value : goal.returns-in-err-value
-returns-in-err-value c =
-    let e = clauses (drop c.args.at c.args.text.now) None (unfit c.args.at c.args.text.now (sym c.in-err-value.was ∙ c.digits.ensures)) in
-    rw c.from-residual.ensures record { value = e.0; written = e.1; reads = e.2 }
+pub returns-in_err-value : goal.returns-in_err-value
+returns-in_err-value c =
+    let e = clauses (drop c.args.at c.args.text.now) None (unfit c.args.at c.args.text.now (sym c.in_err-value.was ∙ c.digits.ensures)) in
+    rw c.from_residual.ensures record { value = e.0; written = e.1; reads = e.2 }
 
-pub returns-then-is-plain : goal.returns-then-is-plain
-returns-then-is-plain c =
-    let v = c.in-ok-value.value in
-    let k = c.in-ok-value.size in
+pub returns-then-is_plain : goal.returns-then-is_plain
+returns-then-is_plain c =
+    let v = c.in_ok-value.value in
+    let k = c.in_ok-value.size in
     let e = clauses (drop c.args.at c.args.text.now) (Some (v, k))
-    (asked c.args.at c.args.text.now v k true (sym c.in-ok-value.was ∙ c.digits.ensures) (sym c.if-is-plain.true ∙ c.is-plain.ensures)) in
+    (asked c.args.at c.args.text.now v k true (sym c.in_ok-value.was ∙ c.digits.ensures) (sym c.if-is_plain.true ∙ c.is_plain.ensures)) in
     record { value = e.0; written = e.1; reads = e.2 }
 
-pub returns-else-is-plain : goal.returns-else-is-plain
-returns-else-is-plain c =
+pub returns-else-is_plain : goal.returns-else-is_plain
+returns-else-is_plain c =
     let e = clauses (drop c.args.at c.args.text.now) None
-    (asked c.args.at c.args.text.now c.in-ok-value.value c.in-ok-value.size false
-    (sym c.in-ok-value.was ∙ c.digits.ensures) (sym c.if-is-plain.false ∙ c.is-plain.ensures)) in
+    (asked c.args.at c.args.text.now c.in_ok-value.value c.in_ok-value.size false
+    (sym c.in_ok-value.was ∙ c.digits.ensures) (sym c.if-is_plain.false ∙ c.is_plain.ensures)) in
     record { value = e.0; written = e.1; reads = e.2 }

@@ -15,7 +15,7 @@ returns g c =
     let e = between_min area c.args.entries.start c.args.entries.end c.min-start.result c.min-end.result c.min-end.ensures c.min-start.ensures in (
       omega arith,
       omega arith,
-      c.copy-within.ensures.after
+      c.copy_within.ensures.after
           ∙ ap (λ z. (take n area ++ z) ++ drop (n + (c.min-end.result - c.min-start.result)) area) (sym e)
           ∙ ap (λ k. (take n area ++ take (c.args.entries.end - c.args.entries.start) (drop c.args.entries.start area)) ++ drop (n + k) area) (sym l),
     )

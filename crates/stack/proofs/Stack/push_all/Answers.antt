@@ -10,6 +10,6 @@ returns g c =
     let area = c.args.area.now in (
       omega arith,
       refl,
-      put_mid-paste n (n + length xs - n) area c.copy-from-slice.new.self xs (length xs) c.copy-from-slice.ensures.after (omega arith) refl
+      put_mid-paste n (n + length xs - n) area c.copy_from_slice.new.self xs (length xs) c.copy_from_slice.ensures.after (omega arith) refl
           ∙ ap (λ z. (take n area ++ z) ++ drop (n + length xs) area) (take_all (length xs) xs (omega arith)),
     )

@@ -17,9 +17,9 @@ fn open<M: Machine>(
     size: u32,
     row: &mut [u8],
 ) -> Result<Phase, CertificateFault>
-    requires { (meaning machine.now).variables ≤ length row.old }
-    ensures is { seen (meaning machine.now) result row.new ≡ claimed (meaning machine.now) claim size }
-    ensures steady { Steadily (meaning machine.now) result row.new }
+    requires { (M.meaning machine.now).variables ≤ length row.old }
+    ensures is { seen (M.meaning machine.now) result row.new ≡ claimed (M.meaning machine.now) claim size }
+    ensures steady { Steadily (M.meaning machine.now) result row.new }
 {
     if claim != 3 || size < 1 || size > 4096 {
         return Err(CertificateFault::WrongNumber);
@@ -46,11 +46,11 @@ fn set_bit<M: Machine>(
     bits: usize,
     row: &mut [u8],
 ) -> Result<Phase, CertificateFault>
-    requires room { (meaning machine.now).variables ≤ length row.old }
-    requires lacking { bits < (meaning machine.now).inputs }
-    requires small { (SmallInputs bits row.old) × (SmallState (meaning machine.now) row.old) }
-    ensures is { seen (meaning machine.now) result row.new ≡ bit_set (meaning machine.now) value left (part 1 bits row.old) (row_state (meaning machine.now) row.old) }
-    ensures steady { Steadily (meaning machine.now) result row.new }
+    requires room { (M.meaning machine.now).variables ≤ length row.old }
+    requires lacking { bits < (M.meaning machine.now).inputs }
+    requires small { (SmallInputs bits row.old) × (SmallState (M.meaning machine.now) row.old) }
+    ensures is { seen (M.meaning machine.now) result row.new ≡ bit_set (M.meaning machine.now) value left (part 1 bits row.old) (row_state (M.meaning machine.now) row.old) }
+    ensures steady { Steadily (M.meaning machine.now) result row.new }
 {
     if !is_bit(value) {
         return Err(CertificateFault::WrongNumber);
@@ -69,10 +69,10 @@ fn end_row<M: Machine>(
     left: u32,
     row: &mut [u8],
 ) -> Result<Phase, CertificateFault>
-    requires known { rule < (meaning machine.now).rules }
-    requires fillable { Fillable (meaning machine.now) row.old }
-    ensures is { seen (meaning machine.now) result row.new ≡ row_ended (meaning machine.now) rule left (row_inputs (meaning machine.now) row.old) (row_state (meaning machine.now) row.old) }
-    ensures steady { Steadily (meaning machine.now) result row.new }
+    requires known { rule < (M.meaning machine.now).rules }
+    requires fillable { Fillable (M.meaning machine.now) row.old }
+    ensures is { seen (M.meaning machine.now) result row.new ≡ row_ended (M.meaning machine.now) rule left (row_inputs (M.meaning machine.now) row.old) (row_state (M.meaning machine.now) row.old) }
+    ensures steady { Steadily (M.meaning machine.now) result row.new }
 {
     if left > 1 {
         rows::advance(machine, row);
@@ -95,11 +95,11 @@ pub(crate) fn step<M: Machine>(
     record: Record,
     row: &mut [u8],
 ) -> Result<Phase, CertificateFault>
-    requires known { rule < (meaning machine.now).rules }
-    requires room { (meaning machine.now).variables ≤ length row.old }
-    requires steady { Steady (meaning machine.now) phase row.old }
-    ensures is { seen (meaning machine.now) result row.new ≡ step (meaning machine.now) rule (view (meaning machine.now) phase row.old) «record» }
-    ensures steady { Steadily (meaning machine.now) result row.new }
+    requires known { rule < (M.meaning machine.now).rules }
+    requires room { (M.meaning machine.now).variables ≤ length row.old }
+    requires steady { Steady (M.meaning machine.now) phase row.old }
+    ensures is { seen (M.meaning machine.now) result row.new ≡ step (M.meaning machine.now) rule (view (M.meaning machine.now) phase row.old) «record» }
+    ensures steady { Steadily (M.meaning machine.now) result row.new }
 {
     let inputs = machine.inputs();
     match (record, phase) {

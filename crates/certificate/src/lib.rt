@@ -62,9 +62,9 @@ fn run<M: Machine>(
     bytes: &[u8],
     row: &mut [u8],
 ) -> Result<usize, CertificateRefusal>
-    requires known { rule < (meaning machine.now).rules }
-    requires room { (meaning machine.now).variables ≤ length row.old }
-    ensures { result ≡ judged (meaning machine.now) rule bytes.now }
+    requires known { rule < (M.meaning machine.now).rules }
+    requires room { (M.meaning machine.now).variables ≤ length row.old }
+    ensures { result ≡ judged (M.meaning machine.now) rule bytes.now }
 {
     let mut cursor = Cursor::new(bytes);
     let mut phase = Phase::Opening;
@@ -85,7 +85,7 @@ fn run<M: Machine>(
 
 // Is there such a rule, and has the area a byte for each variable?
 fn admit<M: Machine>(machine: &M, rule: u32, area: usize) -> Result<(), DocketFault>
-    ensures { result ≡ admitted (meaning machine.now) rule area }
+    ensures { result ≡ admitted (M.meaning machine.now) rule area }
 {
     if rule as usize >= machine.rules() {
         return Err(DocketFault::NoRule);
@@ -103,10 +103,10 @@ pub fn replay<M: Machine>(
     bytes: &[u8],
     row: &mut [u8],
 ) -> Result<usize, Refusal>
-    ensures is { result ≡ replayed (meaning machine.now) rule bytes.now (length row.old) }
+    ensures is { result ≡ replayed (M.meaning machine.now) rule bytes.now (length row.old) }
     ensures cleared { row.new ≡ replicate (length row.old) 0 }
-    ensures shown { Shows (meaning machine.now) rule bytes.now (length row.old) result }
-    ensures taken { (records : ℕ) → Counterexample (meaning machine.now) rule bytes.now (length row.old) records → result ≡ Ok records }
+    ensures shown { Shows (M.meaning machine.now) rule bytes.now (length row.old) result }
+    ensures taken { (records : ℕ) → Counterexample (M.meaning machine.now) rule bytes.now (length row.old) records → result ≡ Ok records }
 {
     let row = Cleared(row);
     admit(machine, rule, row.0.len())?;

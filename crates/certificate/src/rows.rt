@@ -9,9 +9,9 @@ use machine::Machine;
 
 // Makes the start the state of the row.
 pub(crate) fn begin<M: Machine>(machine: &M, row: &mut [u8])
-    requires { (meaning machine.now).variables ≤ length row.old }
-    ensures state { row_state (meaning machine.now) row.new ≡ (meaning machine.now).start }
-    ensures small { SmallState (meaning machine.now) row.new }
+    requires { (M.meaning machine.now).variables ≤ length row.old }
+    ensures state { row_state (M.meaning machine.now) row.new ≡ (M.meaning machine.now).start }
+    ensures small { SmallState (M.meaning machine.now) row.new }
 {
     let first = 1 + machine.inputs();
     for bit in 0..machine.state_bits() {
@@ -30,9 +30,9 @@ fn value(row: &[u8], literal: u32) -> bool
 
 // Writes the next state beside the state: into bit 1 of its bytes, while bit 0 is still read.
 fn mark_next<M: Machine>(machine: &M, row: &mut [u8])
-    requires room { (meaning machine.now).variables ≤ length row.old }
-    requires small { (k : ℕ) → k < (meaning machine.now).variables → slice_index row.old k < 2 }
-    ensures { (k : ℕ) → k < (meaning machine.now).state_bits → slice_index row.new (1 + (meaning machine.now).inputs + k) / 2 ≡ byte (lit (bits row.old) (slice_index (meaning machine.now).next k)) }
+    requires room { (M.meaning machine.now).variables ≤ length row.old }
+    requires small { (k : ℕ) → k < (M.meaning machine.now).variables → slice_index row.old k < 2 }
+    ensures { (k : ℕ) → k < (M.meaning machine.now).state_bits → slice_index row.new (1 + (M.meaning machine.now).inputs + k) / 2 ≡ byte (lit (bits row.old) (slice_index (M.meaning machine.now).next k)) }
 {
     let first = 1 + machine.inputs();
     for bit in 0..machine.state_bits() {
@@ -43,8 +43,8 @@ fn mark_next<M: Machine>(machine: &M, row: &mut [u8])
 
 // Makes bit 1 of the state's bytes their only bit.
 fn shift_state<M: Machine>(machine: &M, row: &mut [u8])
-    requires { (meaning machine.now).variables ≤ length row.old }
-    ensures { (k : ℕ) → k < (meaning machine.now).state_bits → slice_index row.new (1 + (meaning machine.now).inputs + k) ≡ slice_index row.old (1 + (meaning machine.now).inputs + k) / 2 }
+    requires { (M.meaning machine.now).variables ≤ length row.old }
+    ensures { (k : ℕ) → k < (M.meaning machine.now).state_bits → slice_index row.new (1 + (M.meaning machine.now).inputs + k) ≡ slice_index row.old (1 + (M.meaning machine.now).inputs + k) / 2 }
 {
     let first = 1 + machine.inputs();
     for bit in 0..machine.state_bits() {
@@ -54,9 +54,9 @@ fn shift_state<M: Machine>(machine: &M, row: &mut [u8])
 
 // Makes the step of the row the state of the row.
 pub(crate) fn advance<M: Machine>(machine: &M, row: &mut [u8])
-    requires { Fillable (meaning machine.now) row.old }
-    ensures state { row_state (meaning machine.now) row.new ≡ (meaning machine.now).step (row_state (meaning machine.now) row.old) (row_inputs (meaning machine.now) row.old) }
-    ensures small { SmallState (meaning machine.now) row.new }
+    requires { Fillable (M.meaning machine.now) row.old }
+    ensures state { row_state (M.meaning machine.now) row.new ≡ (M.meaning machine.now).step (row_state (M.meaning machine.now) row.old) (row_inputs (M.meaning machine.now) row.old) }
+    ensures small { SmallState (M.meaning machine.now) row.new }
 {
     // never refused: a byte for each variable is there, those of inputs and state are 0 or 1
     machine.fill(row).unwrap();
@@ -66,9 +66,9 @@ pub(crate) fn advance<M: Machine>(machine: &M, row: &mut [u8])
 
 // Whether the rule is broken in the row.
 pub(crate) fn broken<M: Machine>(machine: &M, rule: u32, row: &mut [u8]) -> bool
-    requires fillable { Fillable (meaning machine.now) row.old }
-    requires known { rule < (meaning machine.now).rules }
-    ensures { result ≡ (meaning machine.now).broken rule (row_state (meaning machine.now) row.old) (row_inputs (meaning machine.now) row.old) }
+    requires fillable { Fillable (M.meaning machine.now) row.old }
+    requires known { rule < (M.meaning machine.now).rules }
+    ensures { result ≡ (M.meaning machine.now).broken rule (row_state (M.meaning machine.now) row.old) (row_inputs (M.meaning machine.now) row.old) }
 {
     // never refused: a byte for each variable is there, those of inputs and state are 0 or 1
     machine.fill(row).unwrap();

@@ -35,7 +35,7 @@ pub fn admit<M: Machine>(
     literals: usize,
     spans: usize,
 ) -> Result<(), DocketFault>
-    ensures { result ≡ admitted (meaning machine.now) rule (record { row = row; literals = literals; spans = spans }) }
+    ensures { result ≡ admitted (M.meaning machine.now) rule (record { row = row; literals = literals; spans = spans }) }
 {
     if rule as usize >= machine.rules() {
         return Err(DocketFault::NoRule);
@@ -57,9 +57,9 @@ fn check_claim<M: Machine>(
     literals: &mut [u32],
     spans: &mut [Span],
 ) -> Result<usize, Refusal>
-    requires opened { Opened (meaning machine.now) opening.now.claim opening.now cursor.old.offset literals.old spans.old }
+    requires opened { Opened (M.meaning machine.now) opening.now.claim opening.now cursor.old.offset literals.old spans.old }
     requires whole { cursor.old.offset + length cursor.old.rest.now ≡ length bytes.now }
-    ensures { result ≡ proved (meaning machine.now) rule bytes.now (areas_of row.old literals.old spans.old) (contents opening.now literals.old spans.old) cursor.old.rest.now }
+    ensures { result ≡ proved (M.meaning machine.now) rule bytes.now (areas_of row.old literals.old spans.old) (contents opening.now literals.old spans.old) cursor.old.rest.now }
 {
     let records = match opening.claim {
         Claim::Trace => check_trace(machine, rule, opening, cursor, literals, spans)?,
@@ -78,9 +78,9 @@ pub fn check<M: Machine>(
     literals: &mut [u32],
     spans: &mut [Span],
 ) -> Result<Accepted, Refusal>
-    ensures answer { result ≡ verdict (meaning machine.now) rule bytes.now (areas_of row.old literals.old spans.old) }
-    ensures shown { Shows (meaning machine.now) rule bytes.now (areas_of row.old literals.old spans.old) result }
-    ensures taken { (claim : ClaimOf) (records : ℕ) → LawfulCertificate (meaning machine.now) rule bytes.now (areas_of row.old literals.old spans.old) claim records → result ≡ Ok (record { claim = claim; records = records }) }
+    ensures answer { result ≡ verdict (M.meaning machine.now) rule bytes.now (areas_of row.old literals.old spans.old) }
+    ensures shown { Shows (M.meaning machine.now) rule bytes.now (areas_of row.old literals.old spans.old) result }
+    ensures taken { (claim : ClaimOf) (records : ℕ) → LawfulCertificate (M.meaning machine.now) rule bytes.now (areas_of row.old literals.old spans.old) claim records → result ≡ Ok (record { claim = claim; records = records }) }
 {
     admit(machine, rule, row.len(), literals.len(), spans.len())?;
     let mut cursor = Cursor::new(bytes);

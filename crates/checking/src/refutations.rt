@@ -66,8 +66,8 @@ pub(crate) fn check_trace<M: Machine>(
     literals: &mut [u32],
     spans: &mut [Span],
 ) -> Result<usize, CertificateRefusal>
-    requires { Opened (meaning machine.now) Trace opening.now cursor.old.offset literals.old spans.old }
-    ensures { result ≡ refutations (meaning machine.now) rule (length literals.old) (length spans.old) (contents opening.now literals.old spans.old) (cursor.old.offset + length cursor.old.rest.now) cursor.old.rest.now }
+    requires { Opened (M.meaning machine.now) Trace opening.now cursor.old.offset literals.old spans.old }
+    ensures { result ≡ refutations (M.meaning machine.now) rule (length literals.old) (length spans.old) (contents opening.now literals.old spans.old) (cursor.old.offset + length cursor.old.rest.now) cursor.old.rest.now }
 {
     let below = Below {
         literals: opening.frames.literals(),
@@ -92,8 +92,8 @@ pub(crate) fn check_induction<M: Machine>(
     literals: &mut [u32],
     spans: &mut [Span],
 ) -> Result<usize, CertificateRefusal>
-    requires { Opened (meaning machine.now) Induction opening.now cursor.old.offset literals.old spans.old }
-    ensures { result ≡ refutations (meaning machine.now) rule (length literals.old) (length spans.old) (contents opening.now literals.old spans.old) (cursor.old.offset + length cursor.old.rest.now) cursor.old.rest.now }
+    requires { Opened (M.meaning machine.now) Induction opening.now cursor.old.offset literals.old spans.old }
+    ensures { result ≡ refutations (M.meaning machine.now) rule (length literals.old) (length spans.old) (contents opening.now literals.old spans.old) (cursor.old.offset + length cursor.old.rest.now) cursor.old.rest.now }
 {
     let below = Below {
         literals: opening.frames.literals(),

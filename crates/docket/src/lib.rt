@@ -30,7 +30,7 @@ impl<'m, M: Machine> Docket<'m, M> {
     // A docket with every rule open and all counts 0.
     pub fn open(machine: &'m M) -> Docket<'m, M>
         ensures same { result.machine.now ≡ machine.now }
-        ensures reached { Reached (meaning result.machine.now) [] result.book }
+        ensures reached { Reached (M.meaning result.machine.now) [] result.book }
     {
         Docket {
             machine,
@@ -56,9 +56,9 @@ impl<'m, M: Machine> Docket<'m, M> {
         spans: &mut [Span],
     ) -> Result<Accepted, Refusal>
         ensures same { self.new.machine.now ≡ self.old.machine.now }
-        ensures said { result ≡ answer (meaning self.old.machine.now) (handing rule bytes.now row.old literals.old spans.old) self.old.book }
-        ensures book { self.new.book ≡ after (meaning self.old.machine.now) (handing rule bytes.now row.old literals.old spans.old) self.old.book }
-        ensures reached { Reaches (meaning self.old.machine.now) self.old.book (handing rule bytes.now row.old literals.old spans.old) result (meaning self.new.machine.now) self.new.book }
+        ensures said { result ≡ answer (M.meaning self.old.machine.now) (handing rule bytes.now row.old literals.old spans.old) self.old.book }
+        ensures book { self.new.book ≡ after (M.meaning self.old.machine.now) (handing rule bytes.now row.old literals.old spans.old) self.old.book }
+        ensures reached { Reaches (M.meaning self.old.machine.now) self.old.book (handing rule bytes.now row.old literals.old spans.old) result (M.meaning self.new.machine.now) self.new.book }
         ensures row { row.new ≡ replicate (length row.old) 0 }
         ensures literals { literals.new ≡ replicate (length literals.old) 0 }
         ensures spans { spans.new ≡ replicate (length spans.old) (record { start = 0; length = 0 }) }
@@ -76,8 +76,8 @@ impl<'m, M: Machine> Docket<'m, M> {
 
     // The standing of a rule.
     pub fn look_up(&self, rule: u32) -> Result<Standing, DocketFault>
-        ensures said { result ≡ answer (meaning self.now.machine.now) (look_up rule) self.now.book }
-        ensures reached { Reaches (meaning self.now.machine.now) self.now.book (look_up rule) result (meaning self.now.machine.now) self.now.book }
+        ensures said { result ≡ answer (M.meaning self.now.machine.now) (look_up rule) self.now.book }
+        ensures reached { Reaches (M.meaning self.now.machine.now) self.now.book (look_up rule) result (M.meaning self.now.machine.now) self.now.book }
     {
         if rule as usize >= self.machine.rules() {
             return Err(DocketFault::NoRule);
@@ -87,8 +87,8 @@ impl<'m, M: Machine> Docket<'m, M> {
 
     // The counts.
     pub fn tally(&self) -> Tally
-        ensures said { result ≡ answer (meaning self.now.machine.now) tally self.now.book }
-        ensures reached { Reaches (meaning self.now.machine.now) self.now.book tally result (meaning self.now.machine.now) self.now.book }
+        ensures said { result ≡ answer (M.meaning self.now.machine.now) tally self.now.book }
+        ensures reached { Reaches (M.meaning self.now.machine.now) self.now.book tally result (M.meaning self.now.machine.now) self.now.book }
     {
         self.book.tally
     }
@@ -96,9 +96,9 @@ impl<'m, M: Machine> Docket<'m, M> {
     // Makes a rule open that is not.
     pub fn strike(&mut self, rule: u32) -> Result<(), DocketFault>
         ensures same { self.new.machine.now ≡ self.old.machine.now }
-        ensures said { result ≡ answer (meaning self.old.machine.now) (strike rule) self.old.book }
-        ensures book { self.new.book ≡ after (meaning self.old.machine.now) (strike rule) self.old.book }
-        ensures reached { Reaches (meaning self.old.machine.now) self.old.book (strike rule) result (meaning self.new.machine.now) self.new.book }
+        ensures said { result ≡ answer (M.meaning self.old.machine.now) (strike rule) self.old.book }
+        ensures book { self.new.book ≡ after (M.meaning self.old.machine.now) (strike rule) self.old.book }
+        ensures reached { Reaches (M.meaning self.old.machine.now) self.old.book (strike rule) result (M.meaning self.new.machine.now) self.new.book }
     {
         if rule as usize >= self.machine.rules() {
             return Err(DocketFault::NoRule);
@@ -112,8 +112,8 @@ impl<'m, M: Machine> Docket<'m, M> {
 
     // Every rule's standing and the counts, of which the law of dockets holds.
     pub fn account(&self) -> Account
-        ensures said { result ≡ accounted (meaning self.now.machine.now) self.now.book }
-        ensures law { (h : List Made) → Reached (meaning self.now.machine.now) h self.now.book → Law (meaning self.now.machine.now) h result }
+        ensures said { result ≡ accounted (M.meaning self.now.machine.now) self.now.book }
+        ensures law { (h : List Made) → Reached (M.meaning self.now.machine.now) h self.now.book → Law (M.meaning self.now.machine.now) h result }
     {
         Account {
             rules: self.machine.rules(),

@@ -53,7 +53,7 @@ fn above(clause: &[u32], literal: u32) -> bool
 
 // Whether a literal is one of a state bit, and above the last one of the clause.
 fn is_next<M: Machine>(machine: &M, clause: &[u32], literal: u32) -> bool
-    ensures { result ≡ is_next_literal (meaning machine.now) clause.now literal }
+    ensures { result ≡ is_next_literal (M.meaning machine.now) clause.now literal }
 {
     let first = 1 + machine.inputs();
     let end = first + machine.state_bits();
@@ -72,7 +72,7 @@ fn add_literal<M: Machine>(
     frames: &mut Frames,
     literals: &mut [u32],
 ) -> Result<Phase, CertificateFault>
-    ensures { (ps : List Entry) → Does (meaning machine.now) (Framing size) (Literal literal) frames.old literals.old ps result frames.new literals.new ps }
+    ensures { (ps : List Entry) → Does (M.meaning machine.now) (Framing size) (Literal literal) frames.old literals.old ps result frames.new literals.new ps }
 {
     if !is_next(machine, frames.open(literals), literal) {
         return Err(CertificateFault::WrongNumber);
@@ -85,7 +85,7 @@ fn add_literal<M: Machine>(
 
 // Whether a clause may stand in the open frame: in the first one it must hold in the start.
 fn may_stand<M: Machine>(machine: &M, frames: &Frames, clause: &[u32]) -> bool
-    ensures { result ≡ (nat_lt 0 frames.now.count || holds (state_setting (meaning machine.now) (meaning machine.now).start) clause.now) }
+    ensures { result ≡ (nat_lt 0 frames.now.count || holds (state_setting (M.meaning machine.now) (M.meaning machine.now).start) clause.now) }
 {
     frames.count() > 0 || start::holds(machine, clause)
 }
@@ -98,7 +98,7 @@ fn end_clause<M: Machine>(
     literals: &[u32],
     spans: &mut [Span],
 ) -> Result<Phase, CertificateFault>
-    ensures { Does (meaning machine.now) (Framing size) ClauseEnd frames.old literals.now spans.old result frames.new literals.now spans.new }
+    ensures { Does (M.meaning machine.now) (Framing size) ClauseEnd frames.old literals.now spans.old result frames.new literals.now spans.new }
 {
     let stands = may_stand(machine, frames, frames.open(literals));
     if !frames.end_clause(spans) {
@@ -135,7 +135,7 @@ pub(crate) fn step<M: Machine>(
     literals: &mut [u32],
     spans: &mut [Span],
 ) -> Result<Phase, CertificateFault>
-    ensures { Does (meaning machine.now) phase «record» frames.old literals.old spans.old result frames.new literals.new spans.new }
+    ensures { Does (M.meaning machine.now) phase «record» frames.old literals.old spans.old result frames.new literals.new spans.new }
 {
     let open = frames.open(literals).len();
     match (record, phase) {

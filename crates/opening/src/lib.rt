@@ -39,7 +39,7 @@ pub fn open<M: Machine>(
     literals: &mut [u32],
     spans: &mut [Span],
 ) -> Result<Opening, CertificateRefusal>
-    ensures { Reads (meaning machine.now) (room_in (length literals.old) (length spans.old)) cursor.old cursor.new literals.new spans.new result }
+    ensures { Reads (M.meaning machine.now) (room_in (length literals.old) (length spans.old)) cursor.old cursor.new literals.new spans.new result }
 {
     let mut frames = Frames::new();
     let mut phase = Phase::Opening;

@@ -7,7 +7,7 @@ use machine::Machine;
 
 // Whether a literal of a state bit is true in the start.
 fn is_true<M: Machine>(machine: &M, literal: u32) -> bool
-    ensures { result ≡ literal_true (state_setting (meaning machine.now) (meaning machine.now).start) literal }
+    ensures { result ≡ literal_true (state_setting (M.meaning machine.now) (M.meaning machine.now).start) literal }
 {
     let variable = (literal / 2) as usize;
     let bit = variable.saturating_sub(1 + machine.inputs());
@@ -17,7 +17,7 @@ fn is_true<M: Machine>(machine: &M, literal: u32) -> bool
 
 // Whether a clause holds in the start: one of its literals is true there.
 pub(crate) fn holds<M: Machine>(machine: &M, clause: &[u32]) -> bool
-    ensures { result ≡ holds (state_setting (meaning machine.now) (meaning machine.now).start) clause.now }
+    ensures { result ≡ holds (state_setting (M.meaning machine.now) (M.meaning machine.now).start) clause.now }
 {
     for literal in clause {
         if is_true(machine, *literal) {

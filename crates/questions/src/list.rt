@@ -38,7 +38,7 @@ impl<'m, 'f, M: Machine> TraceList<'m, 'f, M> {
         ensures frames { result.frames.now ≡ frames.now }
         ensures rule { result.rule ≡ rule }
         ensures question { result.question ≡ question }
-        ensures tells { TellsOf (meaning machine.now) rule frames.now }
+        ensures tells { TellsOf (M.meaning machine.now) rule frames.now }
     {
         TraceList {
             machine,
@@ -50,7 +50,7 @@ impl<'m, 'f, M: Machine> TraceList<'m, 'f, M> {
 
     // How many clauses a step question has.
     fn count_step(&self, index: usize, clause: usize, literals: &[u32], spans: &[Span]) -> usize
-        ensures { result ≡ length (step_clauses (meaning self.now.machine.now) (clauses_in self.now.frames.now literals.now spans.now index) (next_clause self.now.frames.now literals.now spans.now index clause)) }
+        ensures { result ≡ length (step_clauses (M.meaning self.now.machine.now) (clauses_in self.now.frames.now literals.now spans.now index) (next_clause self.now.frames.now literals.now spans.now index clause)) }
     {
         let rows = count_rows(self.machine, 1, literals, spans);
         let framed = count_framed(self.frames, index, spans);
@@ -67,7 +67,7 @@ impl<'m, 'f, M: Machine> TraceList<'m, 'f, M> {
         literals: &mut [u32],
     ) -> bool
         requires { (next.start ≤ next.end) × (next.end ≤ length literals.old) }
-        ensures { CopiedAs (map (denied_next (meaning self.now.machine.now)) (part literals.old next.start next.end)) number stack.old.used stack.new.used literals.old literals.new result }
+        ensures { CopiedAs (map (denied_next (M.meaning self.now.machine.now)) (part literals.old next.start next.end)) number stack.old.used stack.new.used literals.old literals.new result }
     {
         if number >= next.end - next.start {
             return false;
@@ -86,7 +86,7 @@ impl<'m, 'f, M: Machine> TraceList<'m, 'f, M> {
         literals: &mut [u32],
         spans: &[Span],
     ) -> bool
-        ensures { CopiedAs (step_clauses (meaning self.now.machine.now) (clauses_in self.now.frames.now literals.old spans.now index) (next_clause self.now.frames.now literals.old spans.now index clause)) number stack.old.used stack.new.used literals.old literals.new result }
+        ensures { CopiedAs (step_clauses (M.meaning self.now.machine.now) (clauses_in self.now.frames.now literals.old spans.now index) (next_clause self.now.frames.now literals.old spans.now index clause)) number stack.old.used stack.new.used literals.old literals.new result }
     {
         let rows = count_rows(self.machine, 1, literals, spans);
         if number < rows {
@@ -102,7 +102,7 @@ impl<'m, 'f, M: Machine> TraceList<'m, 'f, M> {
 
     // How many clauses a safe question has.
     fn count_safe(&self, index: usize, literals: &[u32], spans: &[Span]) -> usize
-        ensures { result ≡ length (safe_question (meaning self.now.machine.now) self.now.rule (clauses_in self.now.frames.now literals.now spans.now index)) }
+        ensures { result ≡ length (safe_question (M.meaning self.now.machine.now) self.now.rule (clauses_in self.now.frames.now literals.now spans.now index)) }
     {
         let rows = count_rows(self.machine, 0, literals, spans);
         rows + count_framed(self.frames, index, spans) + 1
@@ -117,7 +117,7 @@ impl<'m, 'f, M: Machine> TraceList<'m, 'f, M> {
         literals: &mut [u32],
         spans: &[Span],
     ) -> bool
-        ensures { CopiedAs (safe_question (meaning self.now.machine.now) self.now.rule (clauses_in self.now.frames.now literals.old spans.now index)) number stack.old.used stack.new.used literals.old literals.new result }
+        ensures { CopiedAs (safe_question (M.meaning self.now.machine.now) self.now.rule (clauses_in self.now.frames.now literals.old spans.now index)) number stack.old.used stack.new.used literals.old literals.new result }
     {
         let rows = count_rows(self.machine, 0, literals, spans);
         if number < rows {
@@ -138,9 +138,9 @@ impl<'m, 'f, M: Machine> TraceList<'m, 'f, M> {
 impl<'m, 'f, M: Machine> ClauseList for TraceList<'m, 'f, M> {
     ghost clauses = { λ s ls ps. asked (M.Machine.meaning s.machine.now) s.rule s.frames.now ls ps s.question };
 
-    ghost literalMark = { λ s. s.frames.now.ended };
+    ghost literal_mark = { λ s. s.frames.now.ended };
 
-    ghost spanMark = { λ s. s.frames.now.spans.used };
+    ghost span_mark = { λ s. s.frames.now.spans.used };
 
     ghost stands = { λ s ls ms ps qs h k. asked_kept s.frames.now ls ms ps qs h k (M.Machine.meaning s.machine.now) s.rule s.question };
 

@@ -17,7 +17,7 @@ pub(crate) fn count_rows<M: Machine>(
     spans: &[Span],
 ) -> usize
     requires { depth ≤ 1 }
-    ensures size { result ≡ length (unroll (meaning machine.now) depth) }
+    ensures size { result ≡ length (unroll (M.meaning machine.now) depth) }
     ensures few { result ≤ 163840 }
 {
     let rows = Unrolling::new(machine, depth);
@@ -34,7 +34,7 @@ pub(crate) fn copy_row<M: Machine>(
     spans: &[Span],
 ) -> bool
     requires { depth ≤ 1 }
-    ensures { CopiedAs (unroll (meaning machine.now) depth) number stack.old.used stack.new.used literals.old literals.new result }
+    ensures { CopiedAs (unroll (M.meaning machine.now) depth) number stack.old.used stack.new.used literals.old literals.new result }
 {
     let rows = Unrolling::new(machine, depth);
     rows.copy(number, stack, literals, spans)
@@ -42,7 +42,7 @@ pub(crate) fn copy_row<M: Machine>(
 
 // The denial of a literal in the next row; no literal is moved beyond the highest.
 pub(crate) fn deny_next<M: Machine>(machine: &M, literal: u32) -> u32
-    ensures { result ≡ denial (min (moved (meaning machine.now) 1 literal) 4294967295) }
+    ensures { result ≡ denial (min (moved (M.meaning machine.now) 1 literal) 4294967295) }
 {
     let by = 2 * machine.variables() as u32;
     deny(literal.saturating_add(by))

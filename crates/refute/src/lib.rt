@@ -23,9 +23,9 @@ fn apply<L: ClauseList>(
     literals: &mut [u32],
     spans: &mut [Span],
 ) -> Result<usize, RefutationFault>
-    ensures step { Steps refutation.old refutation.new literals.old literals.new spans.old spans.new (stepped refutation.old (clauses list.now literals.old spans.old) step literals.old spans.old) result }
+    ensures step { Steps refutation.old refutation.new literals.old literals.new spans.old spans.new (stepped refutation.old (L.clauses list.now literals.old spans.old) step literals.old spans.old) result }
     ensures spent { refutation.new.spent ≡ refutation.old.spent }
-    ensures carries { Standing refutation.old literals.old spans.old → Carries (clauses list.now literals.old spans.old) (own refutation.old literals.old spans.old) (own refutation.new literals.new spans.new) }
+    ensures carries { Standing refutation.old literals.old spans.old → Carries (L.clauses list.now literals.old spans.old) (own refutation.old literals.old spans.old) (own refutation.new literals.new spans.new) }
 {
     match step {
         Step::Take(number) => refutation.take(list, number as usize, literals, spans),
@@ -45,8 +45,8 @@ fn attempt<L: ClauseList>(
 ) -> Result<Refuted, RefutationFault>
     requires fresh { refutation.old ≡ fresh 0 0 }
     requires admits { admitted (length literals.old) (length spans.old) ≡ true }
-    ensures answer { literalMark list.now ≡ 0 → spanMark list.now ≡ 0 → result ≡ concluded (ran (clauses list.now literals.old spans.old) (length literals.old) (length spans.old) steps.now []) }
-    ensures refuted { literalMark list.now ≡ 0 → spanMark list.now ≡ 0 → OnOk result (Unsat (clauses list.now literals.old spans.old)) }
+    ensures answer { L.literal_mark list.now ≡ 0 → L.span_mark list.now ≡ 0 → result ≡ concluded (ran (L.clauses list.now literals.old spans.old) (length literals.old) (length spans.old) steps.now []) }
+    ensures refuted { L.literal_mark list.now ≡ 0 → L.span_mark list.now ≡ 0 → OnOk result (Unsat (L.clauses list.now literals.old spans.old)) }
     ensures spent { refutation.new.spent ≡ granted result true false }
     ensures zero { OnOk result ((literals.new ≡ no_literals literals.old) × (spans.new ≡ no_spans spans.old)) }
 {
@@ -63,8 +63,8 @@ pub fn refute<L: ClauseList>(
     literals: &mut [u32],
     spans: &mut [Span],
 ) -> Result<usize, Refusal>
-    ensures answer { literalMark list.now ≡ 0 → spanMark list.now ≡ 0 → result ≡ verdict (clauses list.now literals.old spans.old) (length literals.old) (length spans.old) steps.now }
-    ensures refuted { literalMark list.now ≡ 0 → spanMark list.now ≡ 0 → OnOk result (Unsat (clauses list.now literals.old spans.old)) }
+    ensures answer { L.literal_mark list.now ≡ 0 → L.span_mark list.now ≡ 0 → result ≡ verdict (L.clauses list.now literals.old spans.old) (length literals.old) (length spans.old) steps.now }
+    ensures refuted { L.literal_mark list.now ≡ 0 → L.span_mark list.now ≡ 0 → OnOk result (Unsat (L.clauses list.now literals.old spans.old)) }
     ensures literals { literals.new ≡ (if admitted (length literals.old) (length spans.old) then no_literals literals.old else literals.old) }
     ensures spans { spans.new ≡ (if admitted (length literals.old) (length spans.old) then no_spans spans.old else spans.old) }
 {

@@ -21,9 +21,9 @@ abbrev pub room_of : Refutation → List ℕ → List Span → Room
 room_of t ls ps = record { literals = length ls; spans = length ps; literals_below = t.floor; spans_below = t.first }
 
 -- the list reads only below the refutation, the stacks lie within the areas, and these are admitted
-pub record Ready (literalMark spanMark : ℕ) (room : Room) : Type 0 where
-  pub list_literals : literalMark ≤ room.literals_below
-  pub list_spans : spanMark ≤ room.spans_below
+pub record Ready (literal_mark span_mark : ℕ) (room : Room) : Type 0 where
+  pub list_literals : literal_mark ≤ room.literals_below
+  pub list_spans : span_mark ≤ room.spans_below
   pub literals : room.literals_below ≤ room.literals
   pub spans : room.spans_below ≤ room.spans
   pub admits : admitted room.literals room.spans ≡ true

@@ -38,7 +38,7 @@ fn apply<L: ClauseList>(
     literals: &mut [u32],
     spans: &mut [Span],
 ) -> Result<Turn, CertificateFault>
-    ensures moved { Standing refutation.old literals.old spans.old → Moved (clauses list.now literals.old spans.old) refutation.old refutation.new literals.old literals.new spans.old spans.new (move (clauses list.now literals.old spans.old) (room_of refutation.old literals.old spans.old) (own refutation.old literals.old spans.old) «record») result }
+    ensures moved { Standing refutation.old literals.old spans.old → Moved (L.clauses list.now literals.old spans.old) refutation.old refutation.new literals.old literals.new spans.old spans.new (move (L.clauses list.now literals.old spans.old) (room_of refutation.old literals.old spans.old) (own refutation.old literals.old spans.old) «record») result }
     ensures spent { result ≡ Ok End → refutation.new.spent ≡ true }
 {
     match record {
@@ -69,7 +69,7 @@ fn run<L: ClauseList>(
     spans: &mut [Span],
 ) -> Result<usize, CertificateRefusal>
     requires { refutation.old ≡ fresh refutation.old.floor refutation.old.first }
-    ensures checked { Ready (literalMark list.now) (spanMark list.now) (room_of refutation.old literals.old spans.old) → Checked (clauses list.now literals.old spans.old) (room_of refutation.old literals.old spans.old) question cursor.old.offset cursor.old.rest.now cursor.new.rest.now literals.old literals.new spans.old spans.new result }
+    ensures checked { Ready (L.literal_mark list.now) (L.span_mark list.now) (room_of refutation.old literals.old spans.old) → Checked (L.clauses list.now literals.old spans.old) (room_of refutation.old literals.old spans.old) question cursor.old.offset cursor.old.rest.now cursor.new.rest.now literals.old literals.new spans.old spans.new result }
     ensures offset { cursor.new.offset + length cursor.new.rest.now ≡ cursor.old.offset + length cursor.old.rest.now }
     ensures spent { OnOk result (refutation.new.spent ≡ true) }
 {
@@ -110,7 +110,7 @@ pub fn refute_from<L: ClauseList>(
     literals: &mut [u32],
     spans: &mut [Span],
 ) -> Result<usize, CertificateRefusal>
-    ensures checked { Ready (literalMark list.now) (spanMark list.now) (room_above below literals.old spans.old) → Checked (clauses list.now literals.old spans.old) (room_above below literals.old spans.old) question cursor.old.offset cursor.old.rest.now cursor.new.rest.now literals.old literals.new spans.old spans.new result }
+    ensures checked { Ready (L.literal_mark list.now) (L.span_mark list.now) (room_above below literals.old spans.old) → Checked (L.clauses list.now literals.old spans.old) (room_above below literals.old spans.old) question cursor.old.offset cursor.old.rest.now cursor.new.rest.now literals.old literals.new spans.old spans.new result }
     ensures offset { cursor.new.offset + length cursor.new.rest.now ≡ cursor.old.offset + length cursor.old.rest.now }
     ensures lengths { (length literals.new ≡ length literals.old) × (length spans.new ≡ length spans.old) }
 {

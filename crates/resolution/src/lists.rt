@@ -11,11 +11,11 @@ pub trait ClauseList {
     ghost clauses: { Self → List ℕ → List SpanOf → List (List ℕ) };
 
     // its marks: it reads no literal, and no span, of the areas from these on
-    ghost literalMark: { Self → ℕ };
+    ghost literal_mark: { Self → ℕ };
 
-    ghost spanMark: { Self → ℕ };
+    ghost span_mark: { Self → ℕ };
 
-    ghost stands: { (s : Self) (ls ms : List ℕ) (ps qs : List SpanOf) → take (literalMark s) ms ≡ take (literalMark s) ls → take (spanMark s) qs ≡ take (spanMark s) ps → clauses s ms qs ≡ clauses s ls ps };
+    ghost stands: { (s : Self) (ls ms : List ℕ) (ps qs : List SpanOf) → take (literal_mark s) ms ≡ take (literal_mark s) ls → take (span_mark s) qs ≡ take (span_mark s) ps → clauses s ms qs ≡ clauses s ls ps };
 
     // How many clauses it has.
     fn count(&self, literals: &[u32], spans: &[Span]) -> usize

@@ -109,9 +109,9 @@ impl Refutation {
         literals: &mut [u32],
         spans: &mut [Span],
     ) -> Result<usize, RefutationFault>
-        ensures step { Steps self.old self.new literals.old literals.new spans.old spans.new (taken self.old (clauses list.now literals.old spans.old) number literals.old spans.old) result }
+        ensures step { Steps self.old self.new literals.old literals.new spans.old spans.new (taken self.old (L.clauses list.now literals.old spans.old) number literals.old spans.old) result }
         ensures spent { self.new.spent ≡ self.old.spent }
-        ensures carries { Standing self.old literals.old spans.old → Carries (clauses list.now literals.old spans.old) (own self.old literals.old spans.old) (own self.new literals.new spans.new) }
+        ensures carries { Standing self.old literals.old spans.old → Carries (L.clauses list.now literals.old spans.old) (own self.old literals.old spans.old) (own self.new literals.new spans.new) }
     {
         if self.spent {
             return Err(RefutationFault::NoClause);

@@ -18,9 +18,9 @@ pub struct ClauseTable<'l, 's> {
 impl ClauseList for ClauseTable<'_, '_> {
     ghost clauses = { λ s ls ps. runs s.literals.now s.spans.now };
 
-    ghost literalMark = { λ s. 0 };
+    ghost literal_mark = { λ s. 0 };
 
-    ghost spanMark = { λ s. 0 };
+    ghost span_mark = { λ s. 0 };
 
     ghost stands = { λ s ls ms ps qs h k. refl };
 

@@ -47,15 +47,15 @@ pub fn induction_question(k: usize, number: usize) -> Option<InductionQuestion>
 // The literal that says that the rule is broken in a row; for a rule that is not there, literal 0 of the row.
 fn broken_literal<M: Machine>(machine: &M, rule: usize, row: usize) -> u32
     requires { row ≤ 64 }
-    ensures { result ≡ moved (meaning machine.now) row (slice_index (meaning machine.now).rule rule) }
+    ensures { result ≡ moved (M.meaning machine.now) row (slice_index (M.meaning machine.now).rule rule) }
 {
     move_literal(machine, row, machine.rule_literal(rule).unwrap_or(0))
 }
 
 // That a state bit is as in the start.
 fn start_unit<M: Machine>(machine: &M, bit: usize) -> Clause
-    requires { bit < (meaning machine.now).state_bits }
-    ensures { listed result ≡ bit_literal (meaning machine.now) bit (slice_index_or (meaning machine.now).start bit false) ∷ [] }
+    requires { bit < (M.meaning machine.now).state_bits }
+    ensures { listed result ≡ bit_literal (M.meaning machine.now) bit (slice_index_or (M.meaning machine.now).start bit false) ∷ [] }
 {
     let literal = state_literal(machine, bit);
     if machine.start_bit(bit).unwrap() {
@@ -66,7 +66,7 @@ fn start_unit<M: Machine>(machine: &M, bit: usize) -> Clause
 
 // How many units a question assumes.
 fn count_assumptions<M: Machine>(machine: &M, question: InductionQuestion) -> usize
-    ensures { result ≡ assumptions (meaning machine.now) question.kind question.depth }
+    ensures { result ≡ assumptions (M.meaning machine.now) question.kind question.depth }
 {
     match question.kind {
         Kind::Base => machine.state_bits(),
@@ -81,8 +81,8 @@ fn assumption<M: Machine>(
     question: InductionQuestion,
     number: usize,
 ) -> Clause
-    requires { number < assumptions (meaning machine.now) question.kind question.depth }
-    ensures { listed result ≡ assumption_at (meaning machine.now) rule question.kind number }
+    requires { number < assumptions (M.meaning machine.now) question.kind question.depth }
+    ensures { listed result ≡ assumption_at (M.meaning machine.now) rule question.kind number }
 {
     match question.kind {
         Kind::Base => start_unit(machine, number),
@@ -97,7 +97,7 @@ fn question_clause<M: Machine>(
     question: InductionQuestion,
     number: usize,
 ) -> Option<Clause>
-    ensures { option_map listed result ≡ entry (asked (meaning machine.now) rule question) number }
+    ensures { option_map listed result ≡ entry (asked (M.meaning machine.now) rule question) number }
 {
     let unrolled = count_unrolled(machine, question.depth);
     if number < unrolled {
@@ -125,9 +125,9 @@ pub struct InductionList<'m, M: Machine> {
 impl<'m, M: Machine> ClauseList for InductionList<'m, M> {
     ghost clauses = { λ s ls ps. asked (M.Machine.meaning s.machine.now) s.rule s.question };
 
-    ghost literalMark = { λ s. 0 };
+    ghost literal_mark = { λ s. 0 };
 
-    ghost spanMark = { λ s. 0 };
+    ghost span_mark = { λ s. 0 };
 
     ghost stands = { λ s ls ms ps qs h k. refl };
 
@@ -148,8 +148,8 @@ impl<'m, M: Machine> InductionList<'m, M> {
     pub fn new(machine: &'m M, rule: usize, question: InductionQuestion) -> InductionList<'m, M>
         ensures machine { result.machine.now ≡ machine.now }
         ensures question { (result.rule ≡ rule) × (result.question ≡ question) }
-        ensures fine { rule < (meaning machine.now).rules → Fine (2 * (suc question.depth * (meaning machine.now).variables)) (asked (meaning machine.now) rule question) }
-        ensures decides { rule < (meaning machine.now).rules → (k : ℕ) → Decides (meaning machine.now) rule k }
+        ensures fine { rule < (M.meaning machine.now).rules → Fine (2 * (suc question.depth * (M.meaning machine.now).variables)) (asked (M.meaning machine.now) rule question) }
+        ensures decides { rule < (M.meaning machine.now).rules → (k : ℕ) → Decides (M.meaning machine.now) rule k }
     {
         InductionList {
             machine,

@@ -15,16 +15,16 @@ use stack::{Span, Stack};
 // A literal moved to a frame.
 pub(crate) fn move_literal<M: Machine>(machine: &M, frame: usize, literal: u32) -> u32
     requires near { frame ≤ 64 }
-    requires low { literal < 2 * (meaning machine.now).variables }
-    ensures { result ≡ moved (meaning machine.now) frame literal }
+    requires low { literal < 2 * (M.meaning machine.now).variables }
+    ensures { result ≡ moved (M.meaning machine.now) frame literal }
 {
     (2 * (frame * machine.variables())) as u32 + literal
 }
 
 // The literal of a state bit.
 pub(crate) fn state_literal<M: Machine>(machine: &M, bit: usize) -> u32
-    requires { bit < (meaning machine.now).state_bits }
-    ensures { result ≡ literal_of_state (meaning machine.now) bit }
+    requires { bit < (M.meaning machine.now).state_bits }
+    ensures { result ≡ literal_of_state (M.meaning machine.now) bit }
 {
     (2 * (machine.inputs() + 1 + bit)) as u32
 }
@@ -32,8 +32,8 @@ pub(crate) fn state_literal<M: Machine>(machine: &M, bit: usize) -> u32
 // A clause of the machine moved to a frame.
 fn move_clause<M: Machine>(machine: &M, frame: usize, number: usize) -> Clause
     requires near { frame ≤ 64 }
-    requires known { number < length (meaning machine.now).clauses }
-    ensures { listed result ≡ map (moved (meaning machine.now) frame) (slice_index_or (meaning machine.now).clauses number []) }
+    requires known { number < length (M.meaning machine.now).clauses }
+    ensures { listed result ≡ map (moved (M.meaning machine.now) frame) (slice_index_or (M.meaning machine.now).clauses number []) }
 {
     let clause = machine.clause(number).unwrap();
     let mut there = Clause::empty();
@@ -46,8 +46,8 @@ fn move_clause<M: Machine>(machine: &M, frame: usize, number: usize) -> Clause
 // A clause that ties a frame to the next: a state bit there is true only if, or is true if, its next literal is.
 fn tie_clause<M: Machine>(machine: &M, frame: usize, number: usize) -> Clause
     requires near { frame < 64 }
-    requires known { number / 2 < (meaning machine.now).state_bits }
-    ensures { listed result ≡ tie_at (meaning machine.now) frame number }
+    requires known { number / 2 < (M.meaning machine.now).state_bits }
+    ensures { listed result ≡ tie_at (M.meaning machine.now) frame number }
 {
     let next = machine.next_literal(number / 2).unwrap();
     let from = move_literal(machine, frame, next);
@@ -61,7 +61,7 @@ fn tie_clause<M: Machine>(machine: &M, frame: usize, number: usize) -> Clause
 // How many clauses depth + 1 rows have.
 pub(crate) fn count_unrolled<M: Machine>(machine: &M, depth: usize) -> usize
     requires { depth ≤ 64 }
-    ensures { result ≡ unroll_size (meaning machine.now) depth }
+    ensures { result ≡ unroll_size (M.meaning machine.now) depth }
 {
     (depth + 1) * machine.clauses() + depth * (2 * machine.state_bits())
 }
@@ -73,7 +73,7 @@ pub(crate) fn unrolled_clause<M: Machine>(
     number: usize,
 ) -> Option<Clause>
     requires { depth ≤ 64 }
-    ensures { option_map listed result ≡ entry (unroll (meaning machine.now) depth) number }
+    ensures { option_map listed result ≡ entry (unroll (M.meaning machine.now) depth) number }
 {
     let clauses = machine.clauses();
     let rows = (depth + 1) * clauses;
@@ -99,9 +99,9 @@ pub struct Unrolling<'m, M: Machine> {
 impl<'m, M: Machine> ClauseList for Unrolling<'m, M> {
     ghost clauses = { λ s ls ps. unroll (M.Machine.meaning s.machine.now) s.depth };
 
-    ghost literalMark = { λ s. 0 };
+    ghost literal_mark = { λ s. 0 };
 
-    ghost spanMark = { λ s. 0 };
+    ghost span_mark = { λ s. 0 };
 
     ghost stands = { λ s ls ms ps qs h k. refl };
 
@@ -120,8 +120,8 @@ impl<'m, M: Machine> Unrolling<'m, M> {
     pub fn new(machine: &'m M, depth: usize) -> Unrolling<'m, M>
         ensures machine { result.machine.now ≡ machine.now }
         ensures depth { result.depth ≡ min depth 64 }
-        ensures rows { Unrolled (meaning machine.now) result.depth }
-        ensures fine { Fine (2 * (suc result.depth * (meaning machine.now).variables)) (unroll (meaning machine.now) result.depth) }
+        ensures rows { Unrolled (M.meaning machine.now) result.depth }
+        ensures fine { Fine (2 * (suc result.depth * (M.meaning machine.now).variables)) (unroll (M.meaning machine.now) result.depth) }
     {
         Unrolling {
             machine,

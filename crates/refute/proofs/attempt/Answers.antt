@@ -10,22 +10,22 @@ loop-step-init g c =
 
 pub loop-step-preserved : goal.loop-step-preserved
 loop-step-preserved g c =
-    let e = c.in-ok-apply.ensures in (
+    let e = c.in_ok-apply.ensures in (
       e.spent ∙ c.loop-step.invariant.0,
       λ a b. goes _ _ _ _ c.args.steps.now c.loop-step.step-index (Take 0) c.loop-step.refutation c.apply.new.refutation c.loop-step.literals c.apply.new.literals c.loop-step.spans c.apply.new.spans
-          (still (g.L.ClauseList.clauses c.args.list.now) (g.L.ClauseList.literalMark c.args.list.now) (g.L.ClauseList.spanMark c.args.list.now) (g.L.ClauseList.stands c.args.list.now) a b c.args.literals.now c.loop-step.literals c.args.spans.now c.loop-step.spans)
-          (c.loop-step.invariant.1 a b) c.loop-step-test.true c.in-ok-apply.field-0 e.step e.carries c.apply.auto.literals c.apply.auto.spans,
+          (still (g.L.ClauseList.clauses c.args.list.now) (g.L.ClauseList.literal_mark c.args.list.now) (g.L.ClauseList.span_mark c.args.list.now) (g.L.ClauseList.stands c.args.list.now) a b c.args.literals.now c.loop-step.literals c.args.spans.now c.loop-step.spans)
+          (c.loop-step.invariant.1 a b) c.loop-step-test.true c.in_ok-apply.field-0 e.step e.carries c.apply.auto.literals c.apply.auto.spans,
     )
 
-pub returns-in-err-apply : goal.returns-in-err-apply
-returns-in-err-apply g c =
-    let e = c.in-err-apply.ensures in
-    let p = err_from_is_err_and c.from-residual.result c.from-residual.ensures.1 in
+pub returns-in_err-apply : goal.returns-in_err-apply
+returns-in_err-apply g c =
+    let e = c.in_err-apply.ensures in
+    let p = err_from_is_err_and c.from_residual.result c.from_residual.ensures.1 in
     rw (p.1, p.2)
     (record {
       answer = λ a b. stops _ _ _ _ c.args.steps.now c.loop-step.step-index (Take 0) c.loop-step.refutation c.apply.new.refutation c.loop-step.literals c.apply.new.literals c.loop-step.spans c.apply.new.spans
-          (still (g.L.ClauseList.clauses c.args.list.now) (g.L.ClauseList.literalMark c.args.list.now) (g.L.ClauseList.spanMark c.args.list.now) (g.L.ClauseList.stands c.args.list.now) a b c.args.literals.now c.loop-step.literals c.args.spans.now c.loop-step.spans)
-          (c.loop-step.invariant.1 a b) c.loop-step-test.true c.in-err-apply.field-0.0 e.step;
+          (still (g.L.ClauseList.clauses c.args.list.now) (g.L.ClauseList.literal_mark c.args.list.now) (g.L.ClauseList.span_mark c.args.list.now) (g.L.ClauseList.stands c.args.list.now) a b c.args.literals.now c.loop-step.literals c.args.spans.now c.loop-step.spans)
+          (c.loop-step.invariant.1 a b) c.loop-step-test.true c.in_err-apply.field-0.0 e.step;
       refuted = λ _ _. tt;
       spent = e.spent ∙ c.loop-step.invariant.0;
       zero = tt;

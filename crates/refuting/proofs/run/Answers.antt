@@ -18,7 +18,7 @@ returns-in-default g c =
     let e = c.in-default.ensures in
     let total : c.offset-offset.result + length l.cursor.rest.now ≡ c.args.cursor.now.offset + length c.args.cursor.now.rest.now = ap (λ (i : ℕ). i + length l.cursor.rest.now) c.offset-offset.ensures ∙ l.invariant.1 in
     record {
-      checked = λ h. out_none (g.L.ClauseList.clauses c.args.list.now c.args.literals.now c.args.spans.now) (g.L.ClauseList.literalMark c.args.list.now) (g.L.ClauseList.spanMark c.args.list.now)
+      checked = λ h. out_none (g.L.ClauseList.clauses c.args.list.now c.args.literals.now c.args.spans.now) (g.L.ClauseList.literal_mark c.args.list.now) (g.L.ClauseList.span_mark c.args.list.now)
           (room_of c.args.refutation.now c.args.literals.now c.args.spans.now) c.args.question c.args.cursor.now.offset c.args.cursor.now.rest.now c.args.literals.now c.args.spans.now h
           l.refutation l.literals l.spans l.cursor.rest.now c.offset-offset.result l.records total (l.invariant.2 h)
           c.next.new.self.rest.now e.exact.0 (read_none l.cursor.rest.now e.value);
@@ -39,11 +39,11 @@ loop-record-preserved g c =
       e.offset ∙ l.invariant.1,
       λ h.
           let q = l.invariant.2 h in
-          goes (g.L.ClauseList.clauses c.args.list.now c.args.literals.now c.args.spans.now) (g.L.ClauseList.literalMark c.args.list.now) (g.L.ClauseList.spanMark c.args.list.now)
+          goes (g.L.ClauseList.clauses c.args.list.now c.args.literals.now c.args.spans.now) (g.L.ClauseList.literal_mark c.args.list.now) (g.L.ClauseList.span_mark c.args.list.now)
           (room_of c.args.refutation.now c.args.literals.now c.args.spans.now) c.args.question c.args.cursor.now.offset c.args.cursor.now.rest.now c.args.literals.now c.args.spans.now h
           l.refutation l.literals l.spans l.cursor.rest.now l.cursor.offset l.records total q
           (g.L.ClauseList.clauses list l.literals l.spans)
-          (still (g.L.ClauseList.clauses list) (g.L.ClauseList.literalMark list) (g.L.ClauseList.spanMark list) (g.L.ClauseList.stands list) (room_of c.args.refutation.now c.args.literals.now c.args.spans.now) h c.args.literals.now l.literals c.args.spans.now l.spans q.literals q.spans)
+          (still (g.L.ClauseList.clauses list) (g.L.ClauseList.literal_mark list) (g.L.ClauseList.span_mark list) (g.L.ClauseList.stands list) (room_of c.args.refutation.now c.args.literals.now c.args.spans.now) h c.args.literals.now l.literals c.args.spans.now l.spans q.literals q.spans)
           c.apply.new.refutation c.apply.new.literals c.apply.new.spans c.in-Some.record c.next.new.self.rest.now is
           shorter c.apply.auto.literals c.apply.auto.spans e.exact.0 c.in-Ok.turn c.in-Next.is (c.in-Ok.ensures.moved q.stands),
     )
@@ -59,11 +59,11 @@ returns-in-End g c =
     record {
       checked = λ h.
           let q = l.invariant.2 h in
-          out_end (g.L.ClauseList.clauses c.args.list.now c.args.literals.now c.args.spans.now) (g.L.ClauseList.literalMark c.args.list.now) (g.L.ClauseList.spanMark c.args.list.now)
+          out_end (g.L.ClauseList.clauses c.args.list.now c.args.literals.now c.args.spans.now) (g.L.ClauseList.literal_mark c.args.list.now) (g.L.ClauseList.span_mark c.args.list.now)
           (room_of c.args.refutation.now c.args.literals.now c.args.spans.now) c.args.question c.args.cursor.now.offset c.args.cursor.now.rest.now c.args.literals.now c.args.spans.now h
           l.refutation l.literals l.spans l.cursor.rest.now l.cursor.offset l.records total q
           (g.L.ClauseList.clauses list l.literals l.spans)
-          (still (g.L.ClauseList.clauses list) (g.L.ClauseList.literalMark list) (g.L.ClauseList.spanMark list) (g.L.ClauseList.stands list) (room_of c.args.refutation.now c.args.literals.now c.args.spans.now) h c.args.literals.now l.literals c.args.spans.now l.spans q.literals q.spans)
+          (still (g.L.ClauseList.clauses list) (g.L.ClauseList.literal_mark list) (g.L.ClauseList.span_mark list) (g.L.ClauseList.stands list) (room_of c.args.refutation.now c.args.literals.now c.args.spans.now) h c.args.literals.now l.literals c.args.spans.now l.spans q.literals q.spans)
           c.apply.new.refutation c.apply.new.literals c.apply.new.spans c.in-Some.record c.next.new.self.rest.now is
           e.exact.0 c.in-Ok.turn c.in-End.is (c.in-Ok.ensures.moved q.stands);
       offset = e.offset ∙ l.invariant.1;
@@ -81,11 +81,11 @@ returns-in-Err g c =
     record {
       checked = λ h.
           let q = l.invariant.2 h in
-          out_stop (g.L.ClauseList.clauses c.args.list.now c.args.literals.now c.args.spans.now) (g.L.ClauseList.literalMark c.args.list.now) (g.L.ClauseList.spanMark c.args.list.now)
+          out_stop (g.L.ClauseList.clauses c.args.list.now c.args.literals.now c.args.spans.now) (g.L.ClauseList.literal_mark c.args.list.now) (g.L.ClauseList.span_mark c.args.list.now)
           (room_of c.args.refutation.now c.args.literals.now c.args.spans.now) c.args.question c.args.cursor.now.offset c.args.cursor.now.rest.now c.args.literals.now c.args.spans.now h
           l.refutation l.literals l.spans l.cursor.rest.now c.offset-offset.result l.records total q
           (g.L.ClauseList.clauses list l.literals l.spans)
-          (still (g.L.ClauseList.clauses list) (g.L.ClauseList.literalMark list) (g.L.ClauseList.spanMark list) (g.L.ClauseList.stands list) (room_of c.args.refutation.now c.args.literals.now c.args.spans.now) h c.args.literals.now l.literals c.args.spans.now l.spans q.literals q.spans)
+          (still (g.L.ClauseList.clauses list) (g.L.ClauseList.literal_mark list) (g.L.ClauseList.span_mark list) (g.L.ClauseList.stands list) (room_of c.args.refutation.now c.args.literals.now c.args.spans.now) h c.args.literals.now l.literals c.args.spans.now l.spans q.literals q.spans)
           c.apply.new.refutation c.apply.new.literals c.apply.new.spans c.in-Some.record c.next.new.self.rest.now is
           c.in-Err.fault (c.in-Err.ensures.moved q.stands);
       offset = e.offset ∙ l.invariant.1;

@@ -20,4 +20,4 @@ moves x y p q l r k a b c =
     (cases_eq x p)
 
 pub returns : goal.returns
-returns c = moves _ _ _ _ _ _ _ c.left-of-left.ensures c.right-of-right.ensures c.kept-of-kept.ensures
+returns c = moves _ _ _ _ _ _ _ c.left_of-left.ensures c.right_of-right.ensures c.kept_of-kept.ensures

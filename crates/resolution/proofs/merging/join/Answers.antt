@@ -78,7 +78,7 @@ loop-next-preserved c =
       c.loop-next.invariant.3,
       c.loop-next.invariant.4,
       turn_skip c.args.from c.both.literals c.loop-next.literals c.args.p c.args.q c.loop-next.i _ c.loop-next.j _ c.in-Some.next.i c.in-Some.next.j c.loop-next.at _
-          h.1 (omega arith) h.3 (omega arith) h.0 h.2 c.loop-next.invariant.4 c.loop-next.invariant.5 (simp c.in-default-keep.is at h.5),
+          h.1 (omega arith) h.3 (omega arith) h.0 h.2 c.loop-next.invariant.4 c.loop-next.invariant.5 (simp c.in_default-keep.is at h.5),
       c.loop-next.invariant.6,
       c.loop-next.invariant.7,
     )
@@ -91,5 +91,5 @@ returns c =
     c.loop-next.invariant.0 c.requires.left.1 c.loop-next.invariant.1 c.requires.right.1 c.loop-next.invariant.4
     (whole c.args.from c.args.literals.now c.both.literals c.loop-next.literals c.args.p c.args.q c.loop-next.i c.args.a.end c.loop-next.j c.args.b.end c.both.i c.both.j c.both.at c.loop-next.at c.args.a.start c.args.b.start
     c.both.invariant.0 c.requires.left.1 c.both.invariant.1 c.requires.right.1 c.both.invariant.4 c.loop-next.invariant.5 c.both.invariant.5)
-    c.in-default.ensures) in
+    c.in_default.ensures) in
     record { end = j.0; after = j.1 }

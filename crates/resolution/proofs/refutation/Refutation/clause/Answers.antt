@@ -4,12 +4,12 @@ use Rattle.stack.proofs.Places.{take_min}
 use Rattle.resolution.proofs.Owned.{length_own, own_at}
 use Rattle.resolution.proofs.refutation.Refutation.clause.Goals as goal
 
-pub returns-in-default : goal.returns-in-default
-returns-in-default c =
+pub returns-in_default : goal.returns-in_default
+returns-in_default c =
     let t = c.args.self.now in
     let l = length_own t.literals.used t.first t.spans.used c.args.literals.now c.args.spans.now in
-    let h = c.in-default.ensures in
-    let s = c.saturating-add.ensures in
+    let h = c.in_default.ensures in
+    let s = c.saturating_add.ensures in
     omega arith
 
 pub returns : goal.returns
@@ -17,8 +17,8 @@ returns c =
     let t = c.args.self.now in
     let l = length_own t.literals.used t.first t.spans.used c.args.literals.now c.args.spans.now in
     let h = c.in-Some.ensures in
-    let s = c.saturating-add.ensures in
-    let e : c.saturating-add.result ≡ c.args.self.now.first + c.args.number = omega arith in (
+    let s = c.saturating_add.ensures in
+    let e : c.saturating_add.result ≡ c.args.self.now.first + c.args.number = omega arith in (
       omega arith,
       c.bounds.ensures.order.0,
       omega arith,

@@ -11,16 +11,16 @@ returns-then-made-eq0 c =
     let t = c.args.self.now in
     let l = length_own t.literals.used t.first t.spans.used c.args.literals.now c.args.spans.now in
     let m = c.min.ensures in
-    let s = c.saturating-sub-made.ensures in
+    let s = c.saturating_sub-made.ensures in
     record { answer = ended_none (own t c.args.literals.now c.args.spans.now) (omega arith); refutation = refl; refuted = refl }
 
-pub returns-in-default : goal.returns-in-default
-returns-in-default c =
+pub returns-in_default : goal.returns-in_default
+returns-in_default c =
     let t = c.args.self.now in
     let l = length_own t.literals.used t.first t.spans.used c.args.literals.now c.args.spans.now in
     let m = c.min.ensures in
-    let s = c.saturating-sub-made.ensures in
-    let h = c.in-default.ensures in
+    let s = c.saturating_sub-made.ensures in
+    let h = c.in_default.ensures in
     record { answer = absurd (omega arith); refutation = refl; refuted = refl }
 
 pub returns-then-latest : goal.returns-then-latest
@@ -28,10 +28,10 @@ returns-then-latest c =
     let t = c.args.self.now in
     let l = length_own t.literals.used t.first t.spans.used c.args.literals.now c.args.spans.now in
     let m = c.min.ensures in
-    let s = c.saturating-sub-made.ensures in
+    let s = c.saturating_sub-made.ensures in
     let h = c.in-Some.ensures in
     let n = length_part c.args.literals.now c.in-Some.latest.start c.in-Some.latest.end h.1 h.3 in
-    let e : c.saturating-sub-made.result ≡ length (own c.args.self.now c.args.literals.now c.args.spans.now) = omega arith in
+    let e : c.saturating_sub-made.result ≡ length (own c.args.self.now c.args.literals.now c.args.spans.now) = omega arith in
     let k = ap length h.4 ∙ ap (λ z. length (numbered_clause (own t c.args.literals.now c.args.spans.now) (z - 1))) e in
     record { answer = ended_not (own t c.args.literals.now c.args.spans.now) (omega arith); refutation = refl; refuted = refl }
 
@@ -41,10 +41,10 @@ returns c =
     let ds = own t c.args.literals.now c.args.spans.now in
     let l = length_own t.literals.used t.first t.spans.used c.args.literals.now c.args.spans.now in
     let m = c.min.ensures in
-    let s = c.saturating-sub-made.ensures in
+    let s = c.saturating_sub-made.ensures in
     let h = c.in-Some.ensures in
     let n = length_part c.args.literals.now c.in-Some.latest.start c.in-Some.latest.end h.1 h.3 in
-    let e : c.saturating-sub-made.result ≡ length (own c.args.self.now c.args.literals.now c.args.spans.now) = omega arith in
+    let e : c.saturating_sub-made.result ≡ length (own c.args.self.now c.args.literals.now c.args.spans.now) = omega arith in
     let k = ap length h.4 ∙ ap (λ z. length (numbered_clause (own t c.args.literals.now c.args.spans.now) (z - 1))) e in
     let some : 0 < length (own c.args.self.now c.args.literals.now c.args.spans.now) = omega arith in
     let none : length (numbered_clause (own c.args.self.now c.args.literals.now c.args.spans.now) (length (own c.args.self.now c.args.literals.now c.args.spans.now) - 1)) ≡ 0 = omega arith in

@@ -24,25 +24,25 @@ unfolding rest
 rest_resolvent ls x y p q i e j f a b d =
     ap (λ z. merge (without p z) (without q (part ls j f))) a ∙ ap (λ z. merge (without p x) (without q z)) b ∙ ap (λ z. merge (without p x) (without z y)) d
 
-pub returns-in-default : goal.returns-in-default
-returns-in-default c =
+pub returns-in_default : goal.returns-in_default
+returns-in_default c =
     let t = c.args.self.now in
     let ls = c.args.literals.now in
     let ps = c.args.spans.now in
     record {
-      step = refused t ls ps _ NoClause (resolves_left (own t ls ps) c.args.left c.args.right c.args.pivot t.literals.used (length ls) t.spans.used (length ps) c.in-default.ensures);
+      step = refused t ls ps _ NoClause (resolves_left (own t ls ps) c.args.left c.args.right c.args.pivot t.literals.used (length ls) t.spans.used (length ps) c.in_default.ensures);
       spent = refl;
       carries = λ list _. same list (own t ls ps);
       law = law;
     }
 
-pub returns-in-default-clause : goal.returns-in-default-clause
-returns-in-default-clause c =
+pub returns-in_default-clause : goal.returns-in_default-clause
+returns-in_default-clause c =
     let t = c.args.self.now in
     let ls = c.args.literals.now in
     let ps = c.args.spans.now in
     record {
-      step = refused t ls ps _ NoClause (resolves_right (own t ls ps) c.args.left c.args.right c.args.pivot t.literals.used (length ls) t.spans.used (length ps) c.in-default-clause.ensures);
+      step = refused t ls ps _ NoClause (resolves_right (own t ls ps) c.args.left c.args.right c.args.pivot t.literals.used (length ls) t.spans.used (length ps) c.in_default-clause.ensures);
       spent = refl;
       carries = λ list _. same list (own t ls ps);
       law = law;
@@ -78,8 +78,8 @@ returns-then-not-has-2 c =
       law = law;
     }
 
-pub returns-then-not-has-place : goal.returns-then-not-has-place
-returns-then-not-has-place c =
+pub returns-then-not-has_place : goal.returns-then-not-has_place
+returns-then-not-has_place c =
     let t = c.args.self.now in
     let ls = c.args.literals.now in
     let ps = c.args.spans.now in
@@ -88,14 +88,14 @@ returns-then-not-has-place c =
     let x = ap (contains c.args.pivot) (sym a.4) ∙ sym c.if-not-has.ensures in
     let y = ap (contains (denial c.args.pivot)) (sym b.4) ∙ ap (λ z. contains z (part ls c.in-Some-clause.b.start c.in-Some-clause.b.end)) (sym c.deny-against.ensures) ∙ sym c.if-not-has-2.ensures in
     record {
-      step = refused t ls ps _ Full (resolves_place (own t ls ps) c.args.left c.args.right c.args.pivot t.literals.used (length ls) t.spans.used (length ps) a.0 b.0 x y (sym c.if-not-has-place.ensures));
+      step = refused t ls ps _ Full (resolves_place (own t ls ps) c.args.left c.args.right c.args.pivot t.literals.used (length ls) t.spans.used (length ps) a.0 b.0 x y (sym c.if-not-has_place.ensures));
       spent = refl;
       carries = λ list _. same list (own t ls ps);
       law = law;
     }
 
-pub returns-then-not-has-room : goal.returns-then-not-has-room
-returns-then-not-has-room c =
+pub returns-then-not-has_room : goal.returns-then-not-has_room
+returns-then-not-has_room c =
     let t = c.args.self.now in
     let ls = c.args.literals.now in
     let ps = c.args.spans.now in
@@ -104,7 +104,7 @@ returns-then-not-has-room c =
     let x = ap (contains c.args.pivot) (sym a.4) ∙ sym c.if-not-has.ensures in
     let y = ap (contains (denial c.args.pivot)) (sym b.4) ∙ ap (λ z. contains z (part ls c.in-Some-clause.b.start c.in-Some-clause.b.end)) (sym c.deny-against.ensures) ∙ sym c.if-not-has-2.ensures in
     let q = rest_resolvent ls _ _ c.args.pivot c.deny-against.result c.in-Some.a.start c.in-Some.a.end c.in-Some-clause.b.start c.in-Some-clause.b.end a.4 b.4 c.deny-against.ensures in
-    let r = ap (λ z. leb (t.literals.used + length z) (length ls)) (sym q) ∙ sym c.if-not-has-room.ensures in
+    let r = ap (λ z. leb (t.literals.used + length z) (length ls)) (sym q) ∙ sym c.if-not-has_room.ensures in
     record {
       step = refused t ls ps _ Full (resolves_room (own t ls ps) c.args.left c.args.right c.args.pivot t.literals.used (length ls) t.spans.used (length ps) a.0 b.0 x y r);
       spent = refl;
@@ -115,8 +115,8 @@ returns-then-not-has-room c =
 pub note-requires : goal.note-requires
 note-requires c =
     let e = c.join-self.ensures.end in
-    let r = leb-true _ _ (sym c.if-not-has-room.ensures) in
-    let p = place_free (length c.args.literals.now) (length c.args.spans.now) c.args.self.now.spans.used (sym c.if-not-has-place.ensures) in
+    let r = leb-true _ _ (sym c.if-not-has_room.ensures) in
+    let p = place_free (length c.args.literals.now) (length c.args.spans.now) c.args.self.now.spans.used (sym c.if-not-has_place.ensures) in
     record { order = omega arith; small = omega arith; free = p.1 }
 
 pub returns : goal.returns
@@ -130,9 +130,9 @@ returns c =
     let x = ap (contains c.args.pivot) (sym a.4) ∙ sym c.if-not-has.ensures in
     let y = ap (contains (denial c.args.pivot)) (sym b.4) ∙ ap (λ z. contains z (part ls c.in-Some-clause.b.start c.in-Some-clause.b.end)) (sym c.deny-against.ensures) ∙ sym c.if-not-has-2.ensures in
     let q = rest_resolvent ls _ _ c.args.pivot c.deny-against.result c.in-Some.a.start c.in-Some.a.end c.in-Some-clause.b.start c.in-Some-clause.b.end a.4 b.4 c.deny-against.ensures in
-    let r = ap (λ z. leb (t.literals.used + length z) (length ls)) (sym q) ∙ sym c.if-not-has-room.ensures in
+    let r = ap (λ z. leb (t.literals.used + length z) (length ls)) (sym q) ∙ sym c.if-not-has_room.ensures in
     let cl = resolvent (numbered_clause ds c.args.left) (numbered_clause ds c.args.right) c.args.pivot in
-    let f = sym c.if-not-has-place.ensures in
+    let f = sym c.if-not-has_place.ensures in
     let p = place_free (length c.args.literals.now) (length c.args.spans.now) c.args.self.now.spans.used f in
     let l = length_own t.literals.used t.first t.spans.used ls ps in
     let h = leb-true (t.literals.used + length cl) (length ls) r in

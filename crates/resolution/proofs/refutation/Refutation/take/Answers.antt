@@ -31,15 +31,15 @@ returns-then-number-count g c =
       carries = λ _. same cs (own t ls ps);
     }
 
-pub returns-then-not-has-place : goal.returns-then-not-has-place
-returns-then-not-has-place g c =
+pub returns-then-not-has_place : goal.returns-then-not-has_place
+returns-then-not-has_place g c =
     let t = c.args.self.now in
     let ls = c.args.literals.now in
     let ps = c.args.spans.now in
     let cs = g.L.ClauseList.clauses c.args.list.now ls ps in
     let h = c.count.ensures in
     record {
-      step = refused t ls ps _ Full (open_takes t cs c.args.number ls ps _ c.if-self.false (takes_place cs c.args.number t.literals.used (length ls) t.spans.used (length ps) (omega arith) (sym c.if-not-has-place.ensures)));
+      step = refused t ls ps _ Full (open_takes t cs c.args.number ls ps _ c.if-self.false (takes_place cs c.args.number t.literals.used (length ls) t.spans.used (length ps) (omega arith) (sym c.if-not-has_place.ensures)));
       spent = refl;
       carries = λ _. same cs (own t ls ps);
     }
@@ -67,7 +67,7 @@ returns-then-not-copy g c =
 pub note-requires : goal.note-requires
 note-requires g c =
     let h = c.if-not-copy.ensures in
-    let p = place_free (length c.args.literals.now) (length c.args.spans.now) c.args.self.now.spans.used (sym c.if-not-has-place.ensures) in
+    let p = place_free (length c.args.literals.now) (length c.args.spans.now) c.args.self.now.spans.used (sym c.if-not-has_place.ensures) in
     record { order = omega arith; small = omega arith; free = p.1 }
 
 pub returns : goal.returns
@@ -78,8 +78,8 @@ returns g c =
     let cs = g.L.ClauseList.clauses c.args.list.now ls ps in
     let cl = numbered_clause cs c.args.number in
     let h = c.if-not-copy.ensures in
-    let b = sym c.if-not-has-place.ensures in
-    let p = place_free (length c.args.literals.now) (length c.args.spans.now) c.args.self.now.spans.used (sym c.if-not-has-place.ensures) in
+    let b = sym c.if-not-has_place.ensures in
+    let p = place_free (length c.args.literals.now) (length c.args.spans.now) c.args.self.now.spans.used (sym c.if-not-has_place.ensures) in
     let l = length_own t.literals.used t.first t.spans.used ls ps in
     let z : c.copy.new.stack.used - c.args.self.now.literals.used ≡ length (numbered_clause (g.L.ClauseList.clauses c.args.list.now c.args.literals.now c.args.spans.now) c.args.number) = omega arith in
     let n : c.note.result ≡ length (own c.args.self.now c.args.literals.now c.args.spans.now) = omega arith in

@@ -16,9 +16,9 @@ returns c =
     let ps = c.args.self.now.spans.now in
     let p = get_or ps c.args.number (record { start = 0; length = 0 }) in
     let h : c.args.number < length c.args.self.now.spans.now = omega arith in
-    copied (runs ls ps) c.args.number c.args.stack.now.used c.push-all.new.self.used c.args.literals.now c.push-all.new.area c.push-all.result _
+    copied (runs ls ps) c.args.number c.args.stack.now.used c.push_all.new.self.used c.args.literals.now c.push_all.new.area c.push_all.result _
     (simp length-map h)
     (runs_at ls ps c.args.number (record { start = 0; length = 0 }) h
     ∙ ap (λ l. run l p) (sym (take_all (length ls) ls (omega arith)))
     ∙ sym (c.bounds-start.ensures.marks ls (omega arith)))
-    c.push-all.ensures
+    c.push_all.ensures

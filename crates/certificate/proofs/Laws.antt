@@ -63,14 +63,14 @@ state_kept m area n v h s k l =
 
 -- a row with all its bits can be filled
 pub fillable : (m : Meaning) (area : List ℕ) (n : ℕ) → m.variables ≤ length area → n ≡ m.inputs → SmallInputs n area → SmallState m area → Fillable m area
-fillable m area n room e x s = (
-  room,
-  λ k l.
+fillable m area n room e x s = record {
+  room = room;
+  small = λ k l.
       ⊎_elim
       (λ (a : k < m.inputs). x k (omega arith))
       (λ (b : m.inputs ≤ k). let p : 1 + m.inputs + (k - m.inputs) ≡ 1 + k = omega arith in let q = ap (λ (i : ℕ). get_or area i 0) p in omega (arith, s (k - m.inputs) (omega arith)))
-      (cases_lt k m.inputs),
-)
+      (cases_lt k m.inputs);
+}
 
 -- a step at a phase and a record that are known
 pub known : (m : Meaning) (o : ℕ) (area : List ℕ) (p q : Phase) (r t : Record) → p ≡ q → r ≡ t → step m o (view m p area) r ≡ step m o (view m q area) t

@@ -178,5 +178,5 @@ module _ (m : Meaning) (rule : ℕ) (bytes : List ℕ) (areas : Areas) where
   pub lawful_verdict : (claim : Claim) (n : ℕ) → LawfulCertificate m rule bytes areas claim n → verdict m rule bytes areas ≡ Ok (record { claim = claim; records = n })
   unfolding verdict
   lawful_verdict claim n c =
-      cond-true (are_bytes bytes) _ _ (bytes_tested bytes (all_bytes bytes c.of-bytes))
+      cond-true (are_bytes bytes) _ _ (bytes_tested bytes (all_bytes bytes c.of_bytes))
       ∙ certificate_checked (record { known = c.known; row = c.row; literals = c.literals; spans = c.spans }) claim n c.certificate

@@ -110,7 +110,7 @@ module _ (f : Frames) (ls ms : List ℕ) (ps qs : List Span) (settled : Settled 
   -- the room above the frames, wherever the areas stand now
   pub same_room : rooms.room_above below ms qs ≡ room_above (length ls) (length ps) (held f ls ps)
   same_room =
-      ap₂ (λ (x y : ℕ). record { literals = x; spans = y; literals_below = below.literals.used; spans_below = below.spans.used }) k.literals-long k.spans-long
+      ap₂ (λ (x y : ℕ). record { literals = x; spans = y; literals_below = below.literals.used; spans_below = below.spans.used }) k.literals_long k.spans_long
       ∙ ap₂ (λ (x y : ℕ). record { literals = length ls; spans = length ps; literals_below = x; spans_below = y })
       (ap (λ (x : Stack). x.used) l ∙ sym literals_below) (ap (λ (x : Stack). x.used) s ∙ sym spans_below)
 
@@ -119,21 +119,21 @@ module _ (f : Frames) (ls ms : List ℕ) (ps qs : List Span) (settled : Settled 
       let u = ap (λ (z : Stack). z.used) l in
       let v = ap (λ (z : Stack). z.used) s in
       let st = settled.stacked in
-      let m = k.literals-long in
-      let n = k.spans-long in
+      let m = k.literals_long in
+      let n = k.spans_long in
       record {
         list_literals = omega arith;
         list_spans = omega arith;
         literals = omega (arith, st.literals_fit);
         spans = omega (arith, st.spans_fit);
-        admits = ap₂ refutation.admitted k.literals-long k.spans-long ∙ h;
+        admits = ap₂ refutation.admitted k.literals_long k.spans_long ∙ h;
       }
 
   pub kept_more : {list : List (List ℕ)} {question offset : ℕ} {bytes left : List ℕ} {ns : List ℕ} {ts : List Span} {r : Result ℕ CertificateRefusal} →
       Checked list (rooms.room_above below ms qs) question offset bytes left ms ns qs ts r → length ns ≡ length ms → length ts ≡ length qs → Kept f ls ns ps ts
   kept_more {ns = ns} {ts = ts} c a b = record {
-    literals_long = a ∙ k.literals-long;
-    spans_long = b ∙ k.spans-long;
+    literals_long = a ∙ k.literals_long;
+    spans_long = b ∙ k.spans_long;
     literals = subst (λ (i : Stack). take i.used ns ≡ take i.used ms) l c.literals ∙ k.literals;
     spans = subst (λ (i : Stack). take i.used ts ≡ take i.used qs) s c.spans ∙ k.spans;
   }

@@ -25,9 +25,10 @@ row_state m row = take m.state_bits (drop (1 + m.inputs) (bits row))
 abbrev pub Ready : ℕ → ℕ → List ℕ → Type 0
 Ready given variables row = (variables ≤ length row) × ((k : ℕ) → k < given → slice_index row (1 + k) < 2)
 
--- a row can be filled
-abbrev pub Fillable : Meaning → List ℕ → Type 0
-Fillable m row = Ready (m.inputs + m.state_bits) m.variables row
+-- a row can be filled: it has a byte for each variable, and those of inputs and state are 0 or 1
+pub record Fillable (m : Meaning) (row : List ℕ) : Type 0 where
+  pub room : m.variables ≤ length row
+  pub small : (k : ℕ) → k < m.inputs + m.state_bits → slice_index row (1 + k) < 2
 
 -- a row that was filled: the bytes of the variables are the fit, the others are as they were
 pub record Filled (m : Meaning) (old new : List ℕ) : Type 0 where

@@ -71,8 +71,8 @@ module _ (list now : List (List ℕ)) (literals spans : ℕ) (steps : List Step)
   unfold_rest =
       sym g.rest ∙ at_drop_more (λ z. ran list literals spans z (own t ls ps)) steps i d h
       ∙ ap (λ o. next o (λ c. ran list literals spans (drop (i + 1) steps) (own t ls ps ++ c ∷ [])))
-      (ap (λ k. attempted list k spans (own t ls ps) (get_or steps i d)) (sym g.literals-long)
-      ∙ ap (λ k. attempted list (length ls) k (own t ls ps) (get_or steps i d)) (sym g.spans-long)
+      (ap (λ k. attempted list k spans (own t ls ps) (get_or steps i d)) (sym g.literals_long)
+      ∙ ap (λ k. attempted list (length ls) k (own t ls ps) (get_or steps i d)) (sym g.spans_long)
       ∙ sym (attempt_is t ls ps g.floor g.first g.stands list (get_or steps i d))
       ∙ ap (λ z. stepped t z (get_or steps i d) ls ps) (sym same))
 
@@ -83,8 +83,8 @@ module _ (list now : List (List ℕ)) (literals spans : ℕ) (steps : List Step)
       record {
         floor = ap (λ z. z.floor) s.refutation ∙ grown_floor t o ∙ g.floor;
         first = ap (λ z. z.first) s.refutation ∙ grown_first t o ∙ g.first;
-        literals_long = lm ∙ g.literals-long;
-        spans_long = lq ∙ g.spans-long;
+        literals_long = lm ∙ g.literals_long;
+        spans_long = lq ∙ g.spans_long;
         stands = n.stands;
         follows = subst (λ z. Follows z (own u ms qs)) same ((c g.stands).follows (subst (λ z. Follows z (own t ls ps)) (sym same) g.follows));
         rest = ap (ran list literals spans (drop (i + 1) steps)) n.clauses

@@ -95,10 +95,10 @@ module _ (t : Table) (row next broken : ℕ) where
 -- a row that is ready for so many given bits and variables, which are those of the table
 module _ (t : Table) (old : List ℕ) (given variables : ℕ) (all : given ≡ t.inputs + t.state_bits) (whole : variables ≡ (meant t).variables) (ready : Ready given variables old) where
   pub can : Fillable (meant t) old
-  can = (omega (arith, ready.0), λ k l. ready.1 k (omega arith))
+  can = record { room = omega (arith, ready.0); small = λ k l. ready.1 k (omega arith) }
 
   room : 1 + t.inputs + t.state_bits ≤ length old
-  room = omega (arith, can.0)
+  room = omega (arith, can.room)
 
   inputs_size : length (row_inputs (meant t) old) ≡ t.inputs
   inputs_size = inputs_length (meant t) old room
@@ -128,7 +128,7 @@ module _ (t : Table) (old : List ℕ) (given variables : ℕ) (all : given ≡ t
     variables_are = omega arith
 
     front_room : 1 + (t.inputs + t.state_bits) + size t ≤ length (set old 0 0)
-    front_room = omega (arith, variables_are, can.0, length-set old 0 0)
+    front_room = omega (arith, variables_are, can.room, length-set old 0 0)
 
     taken : take (meant t).variables new ≡ take (1 + (t.inputs + t.state_bits)) (set old 0 0) ++ parts t row (t.next row) (t.broken row)
     taken =
@@ -162,7 +162,7 @@ module _ (t : Table) (old : List ℕ) (given variables : ℕ) (all : given ≡ t
         (All-append (λ b. b < 2) front ps
         (All-from_get_or (λ b. b < 2) front 0 (λ k l.
         let k< : k < 1 + g = omega arith in
-        omega (arith, get_or-take (1 + g) (set old 0 0) k 0 k<, small_front old g (omega (arith, room)) can.1 k k<)))
+        omega (arith, get_or-take (1 + g) (set old 0 0) k 0 k<, small_front old g (omega (arith, room)) can.small k k<)))
         (parts_small t row (t.next row) (t.broken row)))
 
     filled_row : Filled (meant t) old new
@@ -180,7 +180,7 @@ module _ (t : Table) (old : List ℕ) (given variables : ℕ) (all : given ≡ t
           small = λ k l. omega (
             arith,
             get_or-take v new k 0 l,
-            All-get_or (λ b. b < 2) (take v new) k 0 (omega (arith, length-take-le v new (omega (arith, can.0)))) all_small,
+            All-get_or (λ b. b < 2) (take v new) k 0 (omega (arith, length-take-le v new (omega (arith, can.room)))) all_small,
           );
           fits = subst (Fits (meant t) s x) (sym fit_is) (fitting_fits t s x state_size inputs_size);
           rest = ap (λ (k : ℕ). drop k new) variables_are ∙ ap (drop (first + size t)) written

@@ -4,15 +4,15 @@ use Rattle.certificate.specs.Counterexamples.{Shows}
 use Rattle.certificate.proofs.Showing.{shows, taken}
 use Rattle.certificate.proofs.replay.Goals as goal
 
-pub returns-in-err-records : goal.returns-in-err-records
-returns-in-err-records g c =
+pub returns-in_err-records : goal.returns-in_err-records
+returns-in_err-records g c =
     let m = g.M.Machine.meaning c.args.machine.now in
     let area = length c.args.row.now in
-    let is : c.from-residual-in-err-records.result ≡ replayed m c.args.rule c.args.bytes.now area = search rules in
+    let is : c.from_residual-in_err-records.result ≡ replayed m c.args.rule c.args.bytes.now area = search rules in
     record {
       is = is;
       cleared = search rules;
-      shown = subst (Shows m c.args.rule c.args.bytes.now area) (sym is) (shows m c.args.rule c.args.bytes.now area (λ i. let t = c.type-inv.bytes i in omega arith));
+      shown = subst (Shows m c.args.rule c.args.bytes.now area) (sym is) (shows m c.args.rule c.args.bytes.now area (λ i. let t = c.type_inv.bytes i in omega arith));
       taken = λ k h. is ∙ taken m c.args.rule c.args.bytes.now area k h;
     }
 
@@ -20,10 +20,10 @@ pub returns : goal.returns
 returns g c =
     let m = g.M.Machine.meaning c.args.machine.now in
     let area = length c.args.row.now in
-    let is : Ok c.in-ok-records.records ≡ replayed m c.args.rule c.args.bytes.now area = search rules in
+    let is : Ok c.in_ok-records.records ≡ replayed m c.args.rule c.args.bytes.now area = search rules in
     record {
       is = is;
       cleared = search rules;
-      shown = subst (Shows m c.args.rule c.args.bytes.now area) (sym is) (shows m c.args.rule c.args.bytes.now area (λ i. let t = c.type-inv.bytes i in omega arith));
+      shown = subst (Shows m c.args.rule c.args.bytes.now area) (sym is) (shows m c.args.rule c.args.bytes.now area (λ i. let t = c.type_inv.bytes i in omega arith));
       taken = λ k h. is ∙ taken m c.args.rule c.args.bytes.now area k h;
     }

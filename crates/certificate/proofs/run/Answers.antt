@@ -14,19 +14,19 @@ loop-phase-init g c = (
   tt,
 )
 
-pub returns-in-default : goal.returns-in-default
-returns-in-default g c =
+pub returns-in_default : goal.returns-in_default
+returns-in_default g c =
     let m = g.M.Machine.meaning c.args.machine.now in
     let l = c.loop-phase in
-    ap Err (c.at-offset.ensures ∙ ap (at_offset NoRecord) c.offset-offset.ensures)
+    ap Err (c.at_offset.ensures ∙ ap (at_offset NoRecord) c.offset-offset.ensures)
     ∙ out_none m c.args.rule c.args.bytes.now l.cursor.rest.now l.cursor.offset l.records (view m l.phase l.row) l.invariant.0
-    (sym (c.loop-phase-test.ensures m l.row)) (read_none _ c.in-default.ensures.value)
+    (sym (c.loop-phase-test.ensures m l.row)) (read_none _ c.in_default.ensures.value)
 
 pub returns-in-Err : goal.returns-in-Err
 returns-in-Err g c =
     let m = g.M.Machine.meaning c.args.machine.now in
     let l = c.loop-phase in
-    ap Err (c.at-offset-in-Err.ensures ∙ ap (at_offset c.in-Err.fault) c.offset-offset.ensures)
+    ap Err (c.at_offset-in-Err.ensures ∙ ap (at_offset c.in-Err.fault) c.offset-offset.ensures)
     ∙ out_stop m c.args.rule c.args.bytes.now l.cursor.rest.now l.cursor.offset l.records (view m l.phase l.row) l.invariant.0
     c.in-Some.record _ c.in-Err.fault
     (sym (c.loop-phase-test.ensures m l.row)) (read_some _ c.in-Some.record c.in-Some.ensures.value) (sym c.in-Err.ensures.is)

@@ -11,7 +11,7 @@ pub returns-in-err-admit : goal.returns-in-err-admit
 returns-in-err-admit g c =
     let m = g.M.Machine.meaning c.args.machine.now in
     let areas = areas_of c.args.row.now c.args.literals.now c.args.spans.now in
-    let of_bytes : Bytes c.args.bytes.now = λ i. let t = c.type-inv.bytes i in omega arith in
+    let of_bytes : Bytes c.args.bytes.now = λ i. let t = c.type_inv.bytes i in omega arith in
     let p = err_from_is_err_and c.from-residual.result c.from-residual.ensures.1 in
     let is : c.from-residual.result ≡ verdict m c.args.rule c.args.bytes.now areas =
     p.1 ∙ ap Err p.2 ∙ call_refused m c.args.rule c.args.bytes.now areas of_bytes c.in-err-admit.field-0.0 c.in-err-admit.ensures in
@@ -25,7 +25,7 @@ pub returns-in-err-opening : goal.returns-in-err-opening
 returns-in-err-opening g c =
     let m = g.M.Machine.meaning c.args.machine.now in
     let areas = areas_of c.args.row.now c.args.literals.now c.args.spans.now in
-    let of_bytes : Bytes c.args.bytes.now = λ i. let t = c.type-inv.bytes i in omega arith in
+    let of_bytes : Bytes c.args.bytes.now = λ i. let t = c.type_inv.bytes i in omega arith in
     let p = err_from_is_err_and c.from-residual-in-err-opening.result c.from-residual-in-err-opening.ensures.1 in
     let is : c.from-residual-in-err-opening.result ≡ verdict m c.args.rule c.args.bytes.now areas =
     p.1 ∙ ap Err p.2 ∙ opening_refused m c.args.rule c.args.bytes.now areas of_bytes c.in-ok-admit.ensures c.new-cursor.result c.open.new.cursor c.new-cursor.ensures.rest c.new-cursor.ensures.offset c.open.new.literals c.open.new.spans c.in-err-opening.field-0.0 c.in-err-opening.ensures in
@@ -39,7 +39,7 @@ pub check-claim-requires : goal.check-claim-requires
 check-claim-requires g c =
     let m = g.M.Machine.meaning c.args.machine.now in
     let areas = areas_of c.args.row.now c.args.literals.now c.args.spans.now in
-    let of_bytes : Bytes c.args.bytes.now = λ i. let t = c.type-inv.bytes i in omega arith in
+    let of_bytes : Bytes c.args.bytes.now = λ i. let t = c.type_inv.bytes i in omega arith in
     record {
       opened = begins m c.args.rule c.args.bytes.now areas of_bytes c.in-ok-admit.ensures c.new-cursor.result c.open.new.cursor c.new-cursor.ensures.rest c.new-cursor.ensures.offset c.open.new.literals c.open.new.spans c.in-ok-opening.opening c.in-ok-opening.ensures c.open.auto.literals c.open.auto.spans;
       whole = whole m c.args.rule c.args.bytes.now areas of_bytes c.in-ok-admit.ensures c.new-cursor.result c.open.new.cursor c.new-cursor.ensures.rest c.new-cursor.ensures.offset c.open.new.literals c.open.new.spans c.in-ok-opening.opening c.in-ok-opening.ensures c.open.auto.literals c.open.auto.spans;
@@ -49,7 +49,7 @@ pub returns-in-err-records : goal.returns-in-err-records
 returns-in-err-records g c =
     let m = g.M.Machine.meaning c.args.machine.now in
     let areas = areas_of c.args.row.now c.args.literals.now c.args.spans.now in
-    let of_bytes : Bytes c.args.bytes.now = λ i. let t = c.type-inv.bytes i in omega arith in
+    let of_bytes : Bytes c.args.bytes.now = λ i. let t = c.type_inv.bytes i in omega arith in
     let p = err_from_is_err_and c.from-residual-in-err-records.result c.from-residual-in-err-records.ensures.1 in
     let is : c.from-residual-in-err-records.result ≡ verdict m c.args.rule c.args.bytes.now areas =
     p.1 ∙ ap Err p.2 ∙ claim_said m c.args.rule c.args.bytes.now areas of_bytes c.in-ok-admit.ensures c.new-cursor.result c.open.new.cursor c.new-cursor.ensures.rest c.new-cursor.ensures.offset c.open.new.literals c.open.new.spans c.in-ok-opening.opening c.in-ok-opening.ensures c.open.auto.literals c.open.auto.spans (Err c.in-err-records.field-0.0) c.in-err-records.ensures in
@@ -63,7 +63,7 @@ pub returns : goal.returns
 returns g c =
     let m = g.M.Machine.meaning c.args.machine.now in
     let areas = areas_of c.args.row.now c.args.literals.now c.args.spans.now in
-    let of_bytes : Bytes c.args.bytes.now = λ i. let t = c.type-inv.bytes i in omega arith in
+    let of_bytes : Bytes c.args.bytes.now = λ i. let t = c.type_inv.bytes i in omega arith in
     let is : Ok (record { claim = c.in-ok-opening.opening.claim; records = c.in-ok-records.records }) ≡ verdict m c.args.rule c.args.bytes.now areas =
     claim_said m c.args.rule c.args.bytes.now areas of_bytes c.in-ok-admit.ensures c.new-cursor.result c.open.new.cursor c.new-cursor.ensures.rest c.new-cursor.ensures.offset c.open.new.literals c.open.new.spans c.in-ok-opening.opening c.in-ok-opening.ensures c.open.auto.literals c.open.auto.spans (Ok c.in-ok-records.records) c.in-ok-records.ensures in
     record {

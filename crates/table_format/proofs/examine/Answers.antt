@@ -7,7 +7,7 @@ pub returns-in-Err : goal.returns-in-Err
 returns-in-Err c =
     let bs = c.args.bytes.now in
     let is = unopened bs c.in-Err.fault c.in-Err.ensures in
-    let q = answered bs (λ i. let t = c.type-inv.bytes i in omega arith) _ is in
+    let q = answered bs (λ i. let t = c.type_inv.bytes i in omega arith) _ is in
     record { answer = is; exactly = q.0; table = q.1 }
 
 pub rows-rows-requires : goal.rows-rows-requires
@@ -31,7 +31,7 @@ returns-in-Err-row c =
     let bs = c.args.bytes.now in
     let q = opened bs c.in-Ok.taken.1.now c.in-Ok.taken.0 c.in-Ok.ensures in
     let is = walked_not bs c.loop-r.rest.now c.rows-rows.result c.loop-r.r c.loop-r.invariant c.in-Ok.taken.0 q.sizes (omega arith) c.in-Err-row.fault c.in-Err-row.ensures in
-    let z = answered bs (λ i. let t = c.type-inv.bytes i in omega arith) _ is in
+    let z = answered bs (λ i. let t = c.type_inv.bytes i in omega arith) _ is in
     record { answer = is; exactly = z.0; table = z.1 }
 
 pub loop-r-preserved : goal.loop-r-preserved
@@ -44,5 +44,5 @@ pub returns : goal.returns
 returns c =
     let bs = c.args.bytes.now in
     let is = c.end.ensures ∙ walked_all bs c.loop-r.rest.now c.rows-rows.result c.loop-r.r c.loop-r.invariant (omega arith) (omega arith) in
-    let z = answered bs (λ i. let t = c.type-inv.bytes i in omega arith) c.end.result is in
+    let z = answered bs (λ i. let t = c.type_inv.bytes i in omega arith) c.end.result is in
     record { answer = is; exactly = z.0; table = z.1 }

@@ -9,7 +9,7 @@ returns-then-left-gt1 g c =
     let m = g.M.Machine.meaning c.args.machine.now in
     let law = g.M.Machine.lawful c.args.machine.now in
     let area = c.args.row.now in
-    let l = length_part area 1 m.inputs (omega (arith, law.room, c.requires.fillable.0)) in
+    let l = length_part area 1 m.inputs (omega (arith, law.room, c.requires.fillable.room)) in
     record {
       is = ap (λ (s : List Bool). Ok (in_row (c.args.left - 1) [] s)) c.advance.ensures.state
           ∙ sym (row_goes m c.args.rule c.args.left (row_inputs m area) (row_state m area) (omega arith) (omega arith));
@@ -21,7 +21,7 @@ returns-then-not-broken g c =
     let m = g.M.Machine.meaning c.args.machine.now in
     let law = g.M.Machine.lawful c.args.machine.now in
     let area = c.args.row.now in
-    let l = length_part area 1 m.inputs (omega (arith, law.room, c.requires.fillable.0)) in
+    let l = length_part area 1 m.inputs (omega (arith, law.room, c.requires.fillable.room)) in
     record { is = sym (row_last m c.args.rule c.args.left (row_inputs m area) (row_state m area) false (omega arith) (omega arith) c.if-not-broken.ensures); steady = tt }
 
 pub returns : goal.returns
@@ -29,5 +29,5 @@ returns g c =
     let m = g.M.Machine.meaning c.args.machine.now in
     let law = g.M.Machine.lawful c.args.machine.now in
     let area = c.args.row.now in
-    let l = length_part area 1 m.inputs (omega (arith, law.room, c.requires.fillable.0)) in
+    let l = length_part area 1 m.inputs (omega (arith, law.room, c.requires.fillable.room)) in
     record { is = sym (row_last m c.args.rule c.args.left (row_inputs m area) (row_state m area) true (omega arith) (omega arith) c.if-not-broken.ensures); steady = tt }

@@ -7,13 +7,13 @@ use Rattle.certificate.proofs.Filling.{one_more}
 use Rattle.certificate.proofs.Laws.{bit_wrong, bit_goes, length_part, part_more, part_kept, state_kept}
 use Rattle.certificate.proofs.decision.set_bit.Goals as goal
 
-pub returns-then-not-is-bit : goal.returns-then-not-is-bit
-returns-then-not-is-bit g c =
+pub returns-then-not-is_bit : goal.returns-then-not-is_bit
+returns-then-not-is_bit g c =
     let m = g.M.Machine.meaning c.args.machine.now in
     let law = g.M.Machine.lawful c.args.machine.now in
     let area = c.args.row.now in
     let l = length_part area 1 c.args.bits (omega (arith, law.room)) in
-    let no-bit = ltb-false c.args.value 2 (sym c.if-not-is-bit.ensures) in
+    let no-bit = ltb-false c.args.value 2 (sym c.if-not-is_bit.ensures) in
     record { is = sym (bit_wrong m c.args.value c.args.left (part 1 c.args.bits area) (row_state m area) (omega arith) (omega arith)); steady = tt }
 
 pub returns : goal.returns
@@ -25,7 +25,7 @@ returns g c =
     let v = c.args.value in
     let long : 1 + n < length area = omega (arith, law.room) in
     let l = length_part area 1 n (omega arith) in
-    let is-bit = ltb-true v 2 (sym c.if-not-is-bit.ensures) in
+    let is_bit = ltb-true v 2 (sym c.if-not-is_bit.ensures) in
     record {
       is =
           ap (λ (x : List Bool). Ok (in_row c.args.left x (row_state m (set area (1 + n) v)))) (part_more area n v long)

@@ -7,14 +7,14 @@ use Rattle.certificate.specs.Views.{Steady}
 use Rattle.certificate.proofs.Laws.{bit_late, row_early, length_part, fillable, known}
 use Rattle.certificate.proofs.decision.step.Goals as goal
 
-pub end-row-requires : goal.end-row-requires
-end-row-requires g c =
+pub end_row-requires : goal.end_row-requires
+end_row-requires g c =
     let m = g.M.Machine.meaning c.args.machine.now in
     let s = subst (λ p. Steady m p c.args.row.now) c.in-RowEnd-Row.is-1 c.requires.steady in
     record { known = c.requires.known; fillable = fillable m c.args.row.now c.in-RowEnd-Row.bits c.requires.room (omega arith) s.1 s.2 }
 
-pub returns-in-default·2 : goal.returns-in-default·2
-returns-in-default·2 g c =
+pub returns-in_default-2 : goal.returns-in_default-2
+returns-in_default-2 g c =
     let m = g.M.Machine.meaning c.args.machine.now in
     let law = g.M.Machine.lawful c.args.machine.now in
     let area = c.args.row.now in
@@ -27,8 +27,8 @@ returns-in-default·2 g c =
       steady = tt;
     }
 
-pub returns-in-default·4 : goal.returns-in-default·4
-returns-in-default·4 g c =
+pub returns-in_default-4 : goal.returns-in_default-4
+returns-in_default-4 g c =
     let m = g.M.Machine.meaning c.args.machine.now in
     let law = g.M.Machine.lawful c.args.machine.now in
     let area = c.args.row.now in

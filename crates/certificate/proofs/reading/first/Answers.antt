@@ -6,26 +6,26 @@ use Rattle.certificate.proofs.reading.first.Goals as goal
 
 pub returns-in-1 : goal.returns-in-1
 unfolding read
-returns-in-1 c = record { value = simp take_rest (search rules); bytes = λ i. let t = c.type-inv.bytes i in omega arith }
+returns-in-1 c = record { value = simp take_rest (search rules); bytes = λ i. let t = c.type_inv.bytes i in omega arith }
 
 pub returns-in-2 : goal.returns-in-2
 unfolding read
-returns-in-2 c = record { value = simp take_rest (search rules); bytes = λ i. let t = c.type-inv.bytes i in omega arith }
+returns-in-2 c = record { value = simp take_rest (search rules); bytes = λ i. let t = c.type_inv.bytes i in omega arith }
 
 pub returns-in-5 : goal.returns-in-5
 unfolding read
-returns-in-5 c = record { value = simp take_rest (search rules); bytes = λ i. let t = c.type-inv.bytes i in omega arith }
+returns-in-5 c = record { value = simp take_rest (search rules); bytes = λ i. let t = c.type_inv.bytes i in omega arith }
 
 pub returns-in-6 : goal.returns-in-6
 unfolding read
-returns-in-6 c = record { value = simp take_rest (search rules); bytes = λ i. let t = c.type-inv.bytes i in omega arith }
+returns-in-6 c = record { value = simp take_rest (search rules); bytes = λ i. let t = c.type_inv.bytes i in omega arith }
 
 pub returns-in-8 : goal.returns-in-8
 unfolding read
-returns-in-8 c = record { value = simp take_rest (search rules); bytes = λ i. let t = c.type-inv.bytes i in omega arith }
+returns-in-8 c = record { value = simp take_rest (search rules); bytes = λ i. let t = c.type_inv.bytes i in omega arith }
 
-pub returns-in-default : goal.returns-in-default
+pub returns-in_default : goal.returns-in_default
 unfolding read
-returns-in-default c =
+returns-in_default c =
     let e : read c.args.bytes.now ≡ read_bare c.args.bytes.now = grind (arith, nat_tests) in
-    record { value = c.first-bare.ensures ∙ sym e; bytes = λ i. let t = c.type-inv.bytes i in omega arith }
+    record { value = c.first_bare.ensures ∙ sym e; bytes = λ i. let t = c.type_inv.bytes i in omega arith }

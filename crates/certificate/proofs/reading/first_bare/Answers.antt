@@ -24,6 +24,6 @@ pub returns-in-10 : goal.returns-in-10
 unfolding read_bare
 returns-in-10 c = simp take_rest (search rules)
 
-pub returns-in-default : goal.returns-in-default
+pub returns-in_default : goal.returns-in_default
 unfolding read_bare
-returns-in-default c = grind (arith, nat_tests)
+returns-in_default c = grind (arith, nat_tests)

@@ -10,9 +10,9 @@ returns g c =
     let old = c.args.row.now in
     let filled = was_filled m old c.fill.new.row c.fill.result c.unwrap.result c.unwrap.ensures c.fill.ensures in
     let s : List Bool = m.step (row_state m old) (row_inputs m old) in
-    let new = c.shift-state.new.row in
+    let new = c.shift_state.new.row in
     let h : (k : ℕ) → k < m.state_bits → get_or new (1 + m.inputs + k) 0 ≡ byte (get_or s k false) =
-    λ k l. c.shift-state.ensures k l ∙ c.mark-next.ensures k l ∙ ap byte (next_is m law old c.fill.new.row filled k l) in
+    λ k l. c.shift_state.ensures k l ∙ c.mark_next.ensures k l ∙ ap byte (next_is m law old c.fill.new.row filled k l) in
     record {
       state = part_from new (1 + m.inputs) m.state_bits s (step_size m law old c.fill.new.row filled) (omega (arith, law.room)) h;
       small = small_from new (1 + m.inputs) m.state_bits s h;

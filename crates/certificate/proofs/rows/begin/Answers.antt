@@ -7,13 +7,13 @@ use Rattle.certificate.proofs.rows.begin.Goals as goal
 pub unwrap-requires : goal.unwrap-requires
 unwrap-requires g c =
     let law = g.M.Machine.lawful c.args.machine.now in
-    there (g.M.Machine.meaning c.args.machine.now).start c.loop-bit.bit false c.start-bit.result (omega (arith, law.start_size)) c.start-bit.ensures
+    there (g.M.Machine.meaning c.args.machine.now).start c.loop-bit.bit false c.start_bit.result (omega (arith, law.start_size)) c.start_bit.ensures
 
 pub loop-bit-preserved : goal.loop-bit-preserved
 loop-bit-preserved g c =
     let m = g.M.Machine.meaning c.args.machine.now in
     let law = g.M.Machine.lawful c.args.machine.now in
-    let v = got m.start c.loop-bit.bit false c.start-bit.result c.unwrap.result (omega (arith, law.start_size)) c.start-bit.ensures c.unwrap.ensures in
+    let v = got m.start c.loop-bit.bit false c.start_bit.result c.unwrap.result (omega (arith, law.start_size)) c.start_bit.ensures c.unwrap.ensures in
     one_more (λ j x. x ≡ byte (get_or m.start j false)) c.loop-bit.row (1 + m.inputs) (1 + c.inputs-first.result + c.loop-bit.bit) c.loop-bit.bit (bool_byte c.unwrap.result)
     (omega arith) (omega (arith, law.room)) (byte_of c.unwrap.result ∙ ap byte v) c.loop-bit.invariant
 

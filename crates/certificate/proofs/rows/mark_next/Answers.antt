@@ -10,13 +10,13 @@ use Rattle.certificate.proofs.rows.mark_next.Goals as goal
 pub unwrap-literal-requires : goal.unwrap-literal-requires
 unwrap-literal-requires g c =
     let law = g.M.Machine.lawful c.args.machine.now in
-    there (g.M.Machine.meaning c.args.machine.now).next c.loop-bit.bit 0 c.next-literal.result (omega (arith, law.next_size)) c.next-literal.ensures
+    there (g.M.Machine.meaning c.args.machine.now).next c.loop-bit.bit 0 c.next_literal.result (omega (arith, law.next_size)) c.next_literal.ensures
 
 pub value-requires : goal.value-requires
 value-requires g c =
     let m = g.M.Machine.meaning c.args.machine.now in
     let law = g.M.Machine.lawful c.args.machine.now in
-    let v = got m.next c.loop-bit.bit 0 c.next-literal.result c.unwrap-literal.result (omega (arith, law.next_size)) c.next-literal.ensures c.unwrap-literal.ensures in
+    let v = got m.next c.loop-bit.bit 0 c.next_literal.result c.unwrap-literal.result (omega (arith, law.next_size)) c.next_literal.ensures c.unwrap-literal.ensures in
     omega (arith, law.next_low c.loop-bit.bit (omega arith))
 
 -- two bits in one byte
@@ -38,7 +38,7 @@ loop-bit-preserved g c =
     let b = c.value.result in
     let p = 1 + c.inputs-first.result + bit in
     let x = get_or row p 0 in
-    let v = got m.next bit 0 c.next-literal.result l (omega (arith, law.next_size)) c.next-literal.ensures c.unwrap-literal.ensures in
+    let v = got m.next bit 0 c.next_literal.result l (omega (arith, law.next_size)) c.next_literal.ensures c.unwrap-literal.ensures in
     let is : b ≡ lit (bits first) (get_or m.next bit 0) = c.value.ensures ∙ low_lit row first l (c.loop-bit.invariant.0 (l / 2) (omega (arith, law.next_low bit (omega arith)))) ∙ ap (lit (bits first)) v in
     let at : p ≡ 1 + m.inputs + bit = omega arith in
     let small : x < 2 = subst (λ (q : ℕ). get_or row q 0 < 2) (sym at) (c.loop-bit.invariant.2 bit (omega arith) (omega arith)) in

@@ -15,4 +15,4 @@ returns-then-j-self c =
 pub returns : goal.returns
 returns c =
     let self = c.args.self.now in
-    ap Some c.gate-clause.ensures ∙ sym (clause_gate self.header self.area.now self.good self.whole c.args.number c.if-number-eq0.false (omega arith))
+    ap Some c.gate_clause.ensures ∙ sym (clause_gate self.header self.area.now self.good self.whole c.args.number c.if-number-eq0.false (omega arith))

@@ -13,7 +13,7 @@ pub loop-j-init : goal.loop-j-init
 loop-j-init c =
     let h = c.args.self.now.header in
     let row = c.args.row.now in
-    let can = c.can-fill.ensures.yes c.if-not-can-fill.false in
+    let can = c.can_fill.ensures.yes c.if-not-can_fill.false in
     let room = can.0 in
     let e : 1 + h.inputs + h.latches + 0 ≡ 1 + h.inputs + h.latches = omega arith in (
       ap (λ (k : ℕ). grow (bits (take k (set row 0 0))) (operands h c.args.self.now.area.now)) e,
@@ -33,7 +33,7 @@ loop-j-preserved c =
     let x = c.value.result in
     let y = c.value-in-loop-j.result in
     let sum = self.good.0.0 in
-    let room = (c.can-fill.ensures.yes c.if-not-can-fill.false).0 in
+    let room = (c.can_fill.ensures.yes c.if-not-can_fill.false).0 in
     let ln : n < length row = omega (arith, length-set c.args.row.now 0 0) in
     let ops = self.good.2 j c.loop-j-test.true in
     let ea : get_or (operands h area) (2 * j) 0 ≡ get_or area (first + 2 * j) 0 = get_or-drop first area (2 * j) 0 in
@@ -69,8 +69,8 @@ returns c =
     let grown : grow (bits (take (h.maximum + 1) c.loop-j.row)) (drop (2 * h.gates) (operands h area)) ≡ grow (bits (take (1 + h.inputs + h.latches) (set c.args.row.now 0 0))) (operands h area) =
     ap (λ (k : ℕ). grow (bits (take k c.loop-j.row)) (drop (2 * h.gates) (operands h area))) n-is
     ∙ ap (λ (k : ℕ). grow (bits (take (1 + h.inputs + h.latches + k) c.loop-j.row)) (drop (2 * k) (operands h area))) (sym j-is) ∙ c.loop-j.invariant.0 in
-    let can = c.can-fill.ensures.yes c.if-not-can-fill.false in (
-      can,
+    let can = c.can_fill.ensures.yes c.if-not-can_fill.false in (
+      record { room = omega (arith, can.0); small = can.1 },
       filled h area c.args.row.now c.loop-j.row self.good self.whole can.0
           (c.loop-j.auto.row ∙ length-set c.args.row.now 0 0) grown (λ k l. c.loop-j.invariant.1 k (omega arith)) c.loop-j.invariant.2,
     )

@@ -12,8 +12,8 @@ loop-index-init c =
       refl,
     )
 
-pub read-line-requires : goal.read-line-requires
-read-line-requires c =
+pub read_line-requires : goal.read_line-requires
+read_line-requires c =
     let few = lines_few c.args.header.now (length c.args.area.now) c.args.kind c.requires.admitted in
     (omega (arith, c.requires.admitted), omega (arith, few.0, few.1, c.lines-index-end.ensures))
 

@@ -9,7 +9,7 @@ pub overflow-add-sum-in-loop-k : goal.overflow-add-sum-in-loop-k
 overflow-add-sum-in-loop-k c =
     let row = c.args.row.now in
     let k = c.loop-k.k in
-    omega (arith, c.loop-k.invariant, c.type-inv.row (1 + (k - 1)), number_small row c.args.given k (omega arith) (omega arith) (omega arith))
+    omega (arith, c.loop-k.invariant, c.type_inv.row (1 + (k - 1)), number_small row c.args.given k (omega arith) (omega arith) (omega arith))
 
 pub loop-k-preserved : goal.loop-k-preserved
 loop-k-preserved c =

@@ -4,14 +4,14 @@ use Rattle.unrolling.proofs.Answered.{got_or}
 use Rattle.unrolling.proofs.LowLiterals.{rule_low}
 use Rattle.unrolling.proofs.induction.broken_literal.Goals as goal
 
-pub move-literal-requires : goal.move-literal-requires
-move-literal-requires g c =
+pub move_literal-requires : goal.move_literal-requires
+move_literal-requires g c =
     let m = g.M.Machine.meaning c.args.machine.now in
     let law = g.M.Machine.lawful c.args.machine.now in
-    let is = got_or m.rule c.args.rule 0 c.unwrap-or.result c.rule-literal.result c.rule-literal.ensures c.unwrap-or.ensures in
+    let is = got_or m.rule c.args.rule 0 c.unwrap_or.result c.rule_literal.result c.rule_literal.ensures c.unwrap_or.ensures in
     record { near = c.requires; low = omega (arith, rule_low m law c.args.rule) }
 
 pub returns : goal.returns
 returns g c =
     let m = g.M.Machine.meaning c.args.machine.now in
-    c.move-literal.ensures ∙ ap (moved m c.args.row) (got_or m.rule c.args.rule 0 c.unwrap-or.result c.rule-literal.result c.rule-literal.ensures c.unwrap-or.ensures)
+    c.move_literal.ensures ∙ ap (moved m c.args.row) (got_or m.rule c.args.rule 0 c.unwrap_or.result c.rule_literal.result c.rule_literal.ensures c.unwrap_or.ensures)

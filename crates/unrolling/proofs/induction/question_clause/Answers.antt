@@ -9,30 +9,30 @@ returns-then-number-unrolled g c =
     let m = g.M.Machine.meaning c.args.machine.now in
     let law = g.M.Machine.lawful c.args.machine.now in
     let q = c.args.question in
-    of_unrolling m law c.args.rule q.kind q.depth c.args.number c.count-unrolled-unrolled.result c.count-unrolled-unrolled.ensures
-    (option_map listed c.unrolled-clause.result) c.if-number-unrolled.true c.unrolled-clause.ensures
+    of_unrolling m law c.args.rule q.kind q.depth c.args.number c.count_unrolled-unrolled.result c.count_unrolled-unrolled.ensures
+    (option_map listed c.unrolled_clause.result) c.if-number-unrolled.true c.unrolled_clause.ensures
 
 pub returns-then-behind-assumed : goal.returns-then-behind-assumed
 returns-then-behind-assumed g c =
     let m = g.M.Machine.meaning c.args.machine.now in
     let law = g.M.Machine.lawful c.args.machine.now in
     let q = c.args.question in
-    of_assumptions m law c.args.rule q.kind q.depth c.args.number c.count-unrolled-unrolled.result c.count-unrolled-unrolled.ensures c.if-number-unrolled.false
-    (listed c.assumption.result) (omega (arith, c.if-behind-assumed.true, c.count-assumptions-assumed.ensures)) c.assumption.ensures
+    of_assumptions m law c.args.rule q.kind q.depth c.args.number c.count_unrolled-unrolled.result c.count_unrolled-unrolled.ensures c.if-number-unrolled.false
+    (listed c.assumption.result) (omega (arith, c.if-behind-assumed.true, c.count_assumptions-assumed.ensures)) c.assumption.ensures
 
 pub returns-then-behind-assumed-2 : goal.returns-then-behind-assumed-2
 returns-then-behind-assumed-2 g c =
     let m = g.M.Machine.meaning c.args.machine.now in
     let law = g.M.Machine.lawful c.args.machine.now in
     let q = c.args.question in
-    of_none m law c.args.rule q.kind q.depth c.args.number c.count-unrolled-unrolled.result c.count-unrolled-unrolled.ensures c.if-number-unrolled.false
-    c.count-assumptions-assumed.result c.count-assumptions-assumed.ensures c.if-behind-assumed-2.true
+    of_none m law c.args.rule q.kind q.depth c.args.number c.count_unrolled-unrolled.result c.count_unrolled-unrolled.ensures c.if-number-unrolled.false
+    c.count_assumptions-assumed.result c.count_assumptions-assumed.ensures c.if-behind-assumed-2.true
 
 pub returns : goal.returns
 returns g c =
     let m = g.M.Machine.meaning c.args.machine.now in
     let law = g.M.Machine.lawful c.args.machine.now in
     let q = c.args.question in
-    of_rule m law c.args.rule q.kind q.depth c.args.number c.count-unrolled-unrolled.result c.count-unrolled-unrolled.ensures c.if-number-unrolled.false
-    c.count-assumptions-assumed.result c.count-assumptions-assumed.ensures (listed c.unit.result) c.if-behind-assumed.false c.if-behind-assumed-2.false
-    (c.unit.ensures ∙ ap (λ l. l ∷ []) c.broken-literal.ensures)
+    of_rule m law c.args.rule q.kind q.depth c.args.number c.count_unrolled-unrolled.result c.count_unrolled-unrolled.ensures c.if-number-unrolled.false
+    c.count_assumptions-assumed.result c.count_assumptions-assumed.ensures (listed c.unit.result) c.if-behind-assumed.false c.if-behind-assumed-2.false
+    (c.unit.ensures ∙ ap (λ l. l ∷ []) c.broken_literal.ensures)

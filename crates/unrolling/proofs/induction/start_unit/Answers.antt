@@ -8,18 +8,18 @@ pub unwrap-requires : goal.unwrap-requires
 unwrap-requires g c =
     let m = g.M.Machine.meaning c.args.machine.now in
     let law = g.M.Machine.lawful c.args.machine.now in
-    there m.start c.args.bit false c.start-bit.result (omega (arith, law.start_size)) c.start-bit.ensures
+    there m.start c.args.bit false c.start_bit.result (omega (arith, law.start_size)) c.start_bit.ensures
 
 pub returns-then-unwrap : goal.returns-then-unwrap
 returns-then-unwrap g c =
     let m = g.M.Machine.meaning c.args.machine.now in
     let law = g.M.Machine.lawful c.args.machine.now in
-    let is = got m.start c.args.bit false c.start-bit.result c.unwrap.result (omega (arith, law.start_size)) c.start-bit.ensures c.unwrap.ensures in
-    c.unit.ensures ∙ ap (λ (l : ℕ). l ∷ []) (c.state-literal-literal.ensures ∙ ap (bit_literal m c.args.bit) (sym c.if-unwrap.true ∙ is))
+    let is = got m.start c.args.bit false c.start_bit.result c.unwrap.result (omega (arith, law.start_size)) c.start_bit.ensures c.unwrap.ensures in
+    c.unit.ensures ∙ ap (λ (l : ℕ). l ∷ []) (c.state_literal-literal.ensures ∙ ap (bit_literal m c.args.bit) (sym c.if-unwrap.true ∙ is))
 
 pub returns : goal.returns
 returns g c =
     let m = g.M.Machine.meaning c.args.machine.now in
     let law = g.M.Machine.lawful c.args.machine.now in
-    let is = got m.start c.args.bit false c.start-bit.result c.unwrap.result (omega (arith, law.start_size)) c.start-bit.ensures c.unwrap.ensures in
-    c.unit-2.ensures ∙ ap (λ (l : ℕ). l ∷ []) (c.deny.ensures ∙ ap denial c.state-literal-literal.ensures ∙ ap (bit_literal m c.args.bit) (sym c.if-unwrap.false ∙ is))
+    let is = got m.start c.args.bit false c.start_bit.result c.unwrap.result (omega (arith, law.start_size)) c.start_bit.ensures c.unwrap.ensures in
+    c.unit-2.ensures ∙ ap (λ (l : ℕ). l ∷ []) (c.deny.ensures ∙ ap denial c.state_literal-literal.ensures ∙ ap (bit_literal m c.args.bit) (sym c.if-unwrap.false ∙ is))

@@ -10,33 +10,33 @@ pub unwrap-next-requires : goal.unwrap-next-requires
 unwrap-next-requires g c =
     let m = g.M.Machine.meaning c.args.machine.now in
     let law = g.M.Machine.lawful c.args.machine.now in
-    there m.next (c.args.number / 2) 0 c.next-literal.result (omega (arith, law.next_size)) c.next-literal.ensures
+    there m.next (c.args.number / 2) 0 c.next_literal.result (omega (arith, law.next_size)) c.next_literal.ensures
 
-pub move-literal-from-requires : goal.move-literal-from-requires
-move-literal-from-requires g c =
+pub move_literal-from-requires : goal.move_literal-from-requires
+move_literal-from-requires g c =
     let m = g.M.Machine.meaning c.args.machine.now in
     let law = g.M.Machine.lawful c.args.machine.now in
-    let v = got m.next (c.args.number / 2) 0 c.next-literal.result c.unwrap-next.result (omega (arith, law.next_size)) c.next-literal.ensures c.unwrap-next.ensures in
+    let v = got m.next (c.args.number / 2) 0 c.next_literal.result c.unwrap-next.result (omega (arith, law.next_size)) c.next_literal.ensures c.unwrap-next.ensures in
     record { near = omega arith; low = omega (arith, law.next_low (c.args.number / 2) c.requires.known) }
 
-pub move-literal-to-requires : goal.move-literal-to-requires
-move-literal-to-requires g c =
+pub move_literal-to-requires : goal.move_literal-to-requires
+move_literal-to-requires g c =
     let m = g.M.Machine.meaning c.args.machine.now in
     let law = g.M.Machine.lawful c.args.machine.now in
-    record { near = omega arith; low = omega (arith, c.state-literal.ensures, state_low m law (c.args.number / 2) c.requires.known) }
+    record { near = omega arith; low = omega (arith, c.state_literal.ensures, state_low m law (c.args.number / 2) c.requires.known) }
 
 pub returns-then-number-eq0 : goal.returns-then-number-eq0
 returns-then-number-eq0 g c =
     let m = g.M.Machine.meaning c.args.machine.now in
     let law = g.M.Machine.lawful c.args.machine.now in
-    let from = next_moved m law c.args.frame (c.args.number / 2) c.requires.known c.next-literal.result c.unwrap-next.result c.move-literal-from.result c.next-literal.ensures c.unwrap-next.ensures c.move-literal-from.ensures in
-    let to = bit_moved m c.args.frame (c.args.number / 2) c.state-literal.result c.move-literal-to.result c.state-literal.ensures c.move-literal-to.ensures in
+    let from = next_moved m law c.args.frame (c.args.number / 2) c.requires.known c.next_literal.result c.unwrap-next.result c.move_literal-from.result c.next_literal.ensures c.unwrap-next.ensures c.move_literal-from.ensures in
+    let to = bit_moved m c.args.frame (c.args.number / 2) c.state_literal.result c.move_literal-to.result c.state_literal.ensures c.move_literal-to.ensures in
     c.pair.ensures ∙ two from (c.deny.ensures ∙ ap denial to) ∙ sym (tie_even m c.args.frame c.args.number c.if-number-eq0.true)
 
 pub returns : goal.returns
 returns g c =
     let m = g.M.Machine.meaning c.args.machine.now in
     let law = g.M.Machine.lawful c.args.machine.now in
-    let from = next_moved m law c.args.frame (c.args.number / 2) c.requires.known c.next-literal.result c.unwrap-next.result c.move-literal-from.result c.next-literal.ensures c.unwrap-next.ensures c.move-literal-from.ensures in
-    let to = bit_moved m c.args.frame (c.args.number / 2) c.state-literal.result c.move-literal-to.result c.state-literal.ensures c.move-literal-to.ensures in
+    let from = next_moved m law c.args.frame (c.args.number / 2) c.requires.known c.next_literal.result c.unwrap-next.result c.move_literal-from.result c.next_literal.ensures c.unwrap-next.ensures c.move_literal-from.ensures in
+    let to = bit_moved m c.args.frame (c.args.number / 2) c.state_literal.result c.move_literal-to.result c.state_literal.ensures c.move_literal-to.ensures in
     c.pair-2.ensures ∙ two (c.deny-2.ensures ∙ ap denial from) to ∙ sym (tie_odd m c.args.frame c.args.number (omega (arith, c.if-number-eq0.false)))

@@ -11,23 +11,23 @@ behind = option_map (λ p. (p.0, p.1.now))
 went : (bs : List ℕ) (o : Option (Record × Bor (List ℕ))) (r : Record) (rest : Bor (List ℕ)) → behind o ≡ read bs → o ≡ Some (r, rest) → read bs ≡ Some (r, rest.now)
 went bs o r rest e w = sym (sym (ap behind w) ∙ e)
 
-pub returns-in-err-record : goal.returns-in-err-record
-returns-in-err-record c =
+pub returns-in_err-record : goal.returns-in_err-record
+returns-in_err-record c =
     let bs = c.args.self.now.rest.now in
-    let e : read bs ≡ None = sym (sym (ap behind c.in-err-record.was) ∙ c.first.ensures.value) in
-    let t = none_taken bs c.from-residual.result e c.from-residual.ensures in
+    let e : read bs ≡ None = sym (sym (ap behind c.in_err-record.was) ∙ c.first.ensures.value) in
+    let t = none_taken bs c.from_residual.result e c.from_residual.ensures in
     record { value = t.0; rest = t.1; offset = refl; exact = t.2 }
 
-pub overflow-sub-self : goal.overflow-sub-self
-overflow-sub-self c = omega (arith, read_shorter _ _ _ c.first.ensures.bytes (went c.args.self.now.rest.now _ _ _ c.first.ensures.value c.in-ok-record.was))
+pub overflow_sub-self : goal.overflow_sub-self
+overflow_sub-self c = omega (arith, read_shorter _ _ _ c.first.ensures.bytes (went c.args.self.now.rest.now _ _ _ c.first.ensures.value c.in_ok-record.was))
 
-pub invariant-of-self : goal.invariant-of-self
-invariant-of-self c = (omega (arith, read_shorter _ _ _ c.first.ensures.bytes (went c.args.self.now.rest.now _ _ _ c.first.ensures.value c.in-ok-record.was)), tt)
+pub invariant_of-self : goal.invariant_of-self
+invariant_of-self c = record { counted = omega (arith, read_shorter _ _ _ c.first.ensures.bytes (went c.args.self.now.rest.now _ _ _ c.first.ensures.value c.in_ok-record.was)) }
 
 pub returns : goal.returns
 returns c =
     let bs = c.args.self.now.rest.now in
-    let e = went bs _ _ _ c.first.ensures.value c.in-ok-record.was in
-    let t = some_taken bs c.in-ok-record.record c.in-ok-record.rest.now c.first.ensures.bytes e in
+    let e = went bs _ _ _ c.first.ensures.value c.in_ok-record.was in
+    let t = some_taken bs c.in_ok-record.record c.in_ok-record.rest.now c.first.ensures.bytes e in
     let s = read_shorter _ _ _ c.first.ensures.bytes e in
     record { value = t.0; rest = t.1; offset = omega arith; exact = t.2 }

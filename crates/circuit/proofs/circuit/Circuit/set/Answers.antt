@@ -4,25 +4,25 @@ use Rattle.aiger.specs.Numbers.{needed}
 use Rattle.circuit.proofs.Judged.{good_from, not_good_from, cut}
 use Rattle.circuit.proofs.circuit.Circuit.set.Goals as goal
 
-pub returns-in-err-judge : goal.returns-in-err-judge
-returns-in-err-judge c =
-    let p = err_from_is_err_and c.from-residual.result c.from-residual.ensures.1 in
-    let e = c.in-err-judge.ensures in
-    rw (p.1, p.2) (record { answer = e; circuit = (not_good_from c.args.header c.args.area.now c.in-err-judge.field-0.0 (sym e), refl) })
+pub returns-in_err-judge : goal.returns-in_err-judge
+returns-in_err-judge c =
+    let p = err_from_is_err_and c.from_residual.result c.from_residual.ensures.1 in
+    let e = c.in_err-judge.ensures in
+    rw (p.1, p.2) (record { answer = e; circuit = (not_good_from c.args.header c.args.area.now c.in_err-judge.field-0.0 (sym e), refl) })
 
-pub invariant-of-self : goal.invariant-of-self
-invariant-of-self c =
+pub invariant_of-self : goal.invariant_of-self
+invariant_of-self c =
     let h = c.args.header in
-    let good = good_from h c.args.area.now c.in-ok-judge.field-0 (sym c.in-ok-judge.ensures) in
+    let good = good_from h c.args.area.now c.in_ok-judge.field-0 (sym c.in_ok-judge.ensures) in
     let both = cut h c.args.area.now (h.latches + h.outputs + 2 * h.gates - 0) (omega arith) good in
-    (both.0, (both.1, tt))
+    record { good = both.0; whole = both.1 }
 
 pub returns : goal.returns
 returns c =
     let h = c.args.header in
-    let e = c.in-ok-judge.ensures in
+    let e = c.in_ok-judge.ensures in
     let n : h.latches + h.outputs + 2 * h.gates - 0 ≡ needed h = omega arith in
     record {
       answer = e;
-      circuit = (good_from h c.args.area.now c.in-ok-judge.field-0 (sym e), refl, ap (λ (k : ℕ). take k c.args.area.now) n);
+      circuit = (good_from h c.args.area.now c.in_ok-judge.field-0 (sym e), refl, ap (λ (k : ℕ). take k c.args.area.now) n);
     }

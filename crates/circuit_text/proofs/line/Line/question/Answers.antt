@@ -12,14 +12,14 @@ no_first : (b : Bool) (e : TextFault) (next : Result Kept TextFault) → ◌≡�
 no_first true e next h = absurd (let z : ◌≡◌ {A = ℕ} 0 1 = cc in omega arith)
 no_first false e next h = cc
 
-pub returns-in-err-ask-5 : goal.returns-in-err-ask-5
-returns-in-err-ask-5 c =
-    let p = err_from_is_err_and c.from-residual-in-err-ask-5.result c.from-residual-in-err-ask-5.ensures.1 in
+pub returns-in_err-ask-in-Gate : goal.returns-in_err-ask-in-Gate
+returns-in_err-ask-in-Gate c =
+    let p = err_from_is_err_and c.from_residual-in_err-ask-in-Gate.result c.from_residual-in_err-ask-in-Gate.ensures.1 in
     let h = c.args.header.now in
     let g = c.in-Gate.gate in
     let a = c.in-Gate.a in
     let b = c.in-Gate.b in
     rw (p.1, p.2)
-    (no_first (eqb g (2 * (1 + h.inputs + h.latches + c.args.index))) c.in-err-ask-5.field-0.0 (cond (ltb a g && leb b a) (Ok (Two a b)) (Err Literal))
-    c.in-err-ask-5.ensures
+    (no_first (eqb g (2 * (1 + h.inputs + h.latches + c.args.index))) c.in_err-ask-in-Gate.field-0.0 (cond (ltb a g && leb b a) (Ok (Two a b)) (Err Literal))
+    c.in_err-ask-in-Gate.ensures
     ∙ ap (questioned h c.args.index) (sym c.in-Gate.is))

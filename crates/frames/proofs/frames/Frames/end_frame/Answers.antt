@@ -5,10 +5,15 @@ use Rattle.frames.proofs.Views.{marked_low}
 use Rattle.frames.proofs.Writing.{adds_frame}
 use Rattle.frames.proofs.frames.Frames.end_frame.Goals as goal
 
-pub invariant-of-self : goal.invariant-of-self
-invariant-of-self c =
+pub invariant_of-self : goal.invariant_of-self
+invariant_of-self c =
     let f = c.args.self.now in
-    (omega arith, (length-set f.marks f.count (record { clauses = f.spans.used; literals = f.ended }) ∙ f.whole, (f.limits, (marked_low f, tt))))
+    record {
+      few = omega arith;
+      whole = length-set f.marks f.count (record { clauses = f.spans.used; literals = f.ended }) ∙ f.whole;
+      limits = f.limits;
+      low = marked_low f;
+    }
 
 pub returns : goal.returns
 returns c = record {

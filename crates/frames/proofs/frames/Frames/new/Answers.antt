@@ -3,5 +3,10 @@ use Rattle.frames.specs.declared.frames.Mark.{Mark}
 use Rattle.frames.proofs.Views.{no_marks}
 use Rattle.frames.proofs.frames.Frames.new.Goals as goal
 
-pub invariant-of-result : goal.invariant-of-result
-invariant-of-result c = (omega arith, (refl, ((omega arith, omega arith, omega arith), ((λ i. let e = no_marks 65 i in (omega (arith, ap (λ (m : Mark). m.clauses) e), omega (arith, ap (λ (m : Mark). m.literals) e))), tt))))
+pub invariant_of-result : goal.invariant_of-result
+invariant_of-result c = record {
+  few = omega arith;
+  whole = refl;
+  limits = (omega arith, omega arith, omega arith);
+  low = λ i. let e = no_marks 65 i in (omega (arith, ap (λ (m : Mark). m.clauses) e), omega (arith, ap (λ (m : Mark). m.literals) e));
+}

@@ -6,4 +6,4 @@ pub returns : goal.returns
 returns g c =
     let machine = c.args.self.now.machine.now in
     let q = c.args.self.now.question in
-    omega (arith, c.count-unrolled.ensures, c.count-assumptions.ensures, asked_count (g.M.Machine.meaning machine) (g.M.Machine.lawful machine) c.args.self.now.rule q.kind q.depth)
+    omega (arith, c.count_unrolled.ensures, c.count_assumptions.ensures, asked_count (g.M.Machine.meaning machine) (g.M.Machine.lawful machine) c.args.self.now.rule q.kind q.depth)

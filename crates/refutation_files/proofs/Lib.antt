@@ -3,3 +3,4 @@ pub mod Fronts
 pub mod OneClause
 pub mod ManyClauses
 pub mod ManySteps
+pub mod Judging

@@ -12,10 +12,10 @@ loop-record-init g c = (
   λ h. begins _ _ _ c.args.question c.args.cursor.now.offset c.args.cursor.now.rest.now c.args.refutation.now c.args.literals.now c.args.spans.now c.requires h,
 )
 
-pub returns-in-default : goal.returns-in-default
-returns-in-default g c =
+pub returns-in_default : goal.returns-in_default
+returns-in_default g c =
     let l = c.loop-record in
-    let e = c.in-default.ensures in
+    let e = c.in_default.ensures in
     let total : c.offset-offset.result + length l.cursor.rest.now ≡ c.args.cursor.now.offset + length c.args.cursor.now.rest.now = ap (λ (i : ℕ). i + length l.cursor.rest.now) c.offset-offset.ensures ∙ l.invariant.1 in
     record {
       checked = λ h. out_none (g.L.ClauseList.clauses c.args.list.now c.args.literals.now c.args.spans.now) (g.L.ClauseList.literal_mark c.args.list.now) (g.L.ClauseList.span_mark c.args.list.now)

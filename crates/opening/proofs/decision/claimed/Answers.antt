@@ -29,5 +29,5 @@ returns-in-3 c =
     let few : c.args.size ≤ 4096 = elim c.if-claim-eq3.branch [ then-claim-eq3 w ↦ omega (arith, w.most-is) | else-claim-eq3 w ↦ omega (arith, w.most-is) ] in
     λ m f ls ps e. fresh_counterexample f ls ps e c.args.claim c.args.size c.in-3.is (omega arith) few
 
-pub returns-in-default : goal.returns-in-default
-returns-in-default c = λ m f ls ps e. record { is = sym (claim_unknown c.args.claim c.args.size (λ q. omega arith) (λ q. omega arith) (λ q. omega arith)); steady = tt }
+pub returns-in_default : goal.returns-in_default
+returns-in_default c = λ m f ls ps e. record { is = sym (claim_unknown c.args.claim c.args.size (λ q. omega arith) (λ q. omega arith) (λ q. omega arith)); steady = tt }

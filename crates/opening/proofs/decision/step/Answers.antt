@@ -20,11 +20,11 @@ returns-in-FrameEnd-Framing g c =
     let f = c.args.frames.now in
     let ls = c.args.literals.now in
     let ps = c.args.spans.now in
-    known m c.args.phase (Framing w.size) c.args.record FrameEnd f ls ps c.end-frame.result c.end-frame.new.frames ls ps w.is-1 w.is-0
-    (c.end-frame.ensures m ls ps (sym (ap length c.open-open.ensures) ∙ c.if-open-eq0.true))
+    known m c.args.phase (Framing w.size) c.args.record FrameEnd f ls ps c.end_frame.result c.end_frame.new.frames ls ps w.is-1 w.is-0
+    (c.end_frame.ensures m ls ps (sym (ap length c.open-open.ensures) ∙ c.if-open-eq0.true))
 
-pub returns-in-default·4 : goal.returns-in-default·4
-returns-in-default·4 g c =
+pub returns-in_default-4 : goal.returns-in_default-4
+returns-in_default-4 g c =
     let m = g.M.Machine.meaning c.args.machine.now in
     let w = c.in-FrameEnd-Framing in
     let f = c.args.frames.now in

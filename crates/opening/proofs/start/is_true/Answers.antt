@@ -7,13 +7,13 @@ use Rattle.opening.proofs.start.is_true.Goals as goal
 pub returns-then-literal-eq0 : goal.returns-then-literal-eq0
 returns-then-literal-eq0 g c =
     let m = g.M.Machine.meaning c.args.machine.now in
-    bit_at m.start (c.args.literal / 2 - (1 + m.inputs)) c.saturating-sub-bit.result c.start-bit.result c.unwrap-or-set.result
-    (omega arith) c.start-bit.ensures c.unwrap-or-set.ensures
+    bit_at m.start (c.args.literal / 2 - (1 + m.inputs)) c.saturating_sub-bit.result c.start_bit.result c.unwrap_or-set.result
+    (omega arith) c.start_bit.ensures c.unwrap_or-set.ensures
     ∙ sym (true_even (state_setting m m.start) c.args.literal (omega arith))
 
 pub returns-else-literal-eq0 : goal.returns-else-literal-eq0
 returns-else-literal-eq0 g c =
     let m = g.M.Machine.meaning c.args.machine.now in
-    ap not (bit_at m.start (c.args.literal / 2 - (1 + m.inputs)) c.saturating-sub-bit.result c.start-bit.result c.unwrap-or-set.result
-    (omega arith) c.start-bit.ensures c.unwrap-or-set.ensures)
+    ap not (bit_at m.start (c.args.literal / 2 - (1 + m.inputs)) c.saturating_sub-bit.result c.start_bit.result c.unwrap_or-set.result
+    (omega arith) c.start_bit.ensures c.unwrap_or-set.ensures)
     ∙ sym (true_odd (state_setting m m.start) c.args.literal (omega arith))

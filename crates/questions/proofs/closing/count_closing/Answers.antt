@@ -7,7 +7,7 @@ pub returns : goal.returns
 returns c a ls =
     let f = c.args.frames.now in
     let ps = c.args.spans.now in
-    let last = c.last-frame-last.ensures in
-    let n = c.count-framed.ensures.size ls ∙ ap (λ k. length (frame f ls ps k)) last in
+    let last = c.last_frame-last.ensures in
+    let n = c.count_framed.ensures.size ls ∙ ap (λ k. length (frame f ls ps k)) last in
     let m = ap (λ m. m.literals) (c.before-2.ensures ∙ ap (before_frame f) last) in
     omega (arith, closing_count a f ls ps)

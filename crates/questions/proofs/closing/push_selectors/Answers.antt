@@ -12,8 +12,8 @@ returns-then-start-literals c =
     let f = c.args.frames.now in
     let n = selecting_count c.args.variables f c.args.index in
     let a = ap (λ m. m.clauses) c.before-first.ensures in
-    let b = c.frame-end.ensures.end in
-    let s = c.saturating-sub-size.ensures in (
+    let b = c.frame_end.ensures.end in
+    let s = c.saturating_sub-size.ensures in (
       elim c.then-start-literals.branch [
         | then-start-literals-via-then-start-literals w ↦ omega (arith, w.if-start-literals.true)
         | then-start-literals-via-else-start-literals+then-size-literals w ↦ omega (arith, w.if-start-literals.false, w.if-size-literals.true)
@@ -43,12 +43,12 @@ returns c =
     let f = c.args.frames.now in
     let n = selecting_count c.args.variables f c.args.index in
     let a = ap (λ m. m.clauses) c.before-first.ensures in
-    let b = c.frame-end.ensures.end in
-    let s = c.saturating-sub-size.ensures in
-    let z : c.loop-k.k ≡ c.saturating-sub-size.result = omega arith in (
+    let b = c.frame_end.ensures.end in
+    let s = c.saturating_sub-size.ensures in
+    let z : c.loop-k.k ≡ c.saturating_sub-size.result = omega arith in (
       omega arith,
       omega arith,
       c.loop-k.invariant
           ∙ ap (λ k. placed c.args.stack.now.used (map (λ n. 2 * (c.args.variables + n)) (range_with_len c.before-first.result.clauses k)) c.args.literals.now) z
-          ∙ ap (λ xs. placed c.args.stack.now.used xs c.args.literals.now) (selecting_is c.args.variables f c.args.index c.before-first.result.clauses c.saturating-sub-size.result a (omega arith)),
+          ∙ ap (λ xs. placed c.args.stack.now.used xs c.args.literals.now) (selecting_is c.args.variables f c.args.index c.before-first.result.clauses c.saturating_sub-size.result a (omega arith)),
     )

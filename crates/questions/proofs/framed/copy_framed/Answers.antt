@@ -6,22 +6,22 @@ use Rattle.questions.proofs.FramedClauses.{clauses_count, frame_count, frame_at}
 use Rattle.questions.proofs.Sections.{copied_none}
 use Rattle.questions.proofs.framed.copy_framed.Goals as goal
 
-pub returns-then-number-count-framed : goal.returns-then-number-count-framed
-returns-then-number-count-framed c =
+pub returns-then-number-count_framed : goal.returns-then-number-count_framed
+returns-then-number-count_framed c =
     let f = c.args.frames.now in
     let ls = c.args.literals.now in
-    copied_none (frame f ls c.args.spans.now c.args.index) c.args.number c.args.stack.now.used ls (omega (arith, c.count-framed.ensures.size ls))
+    copied_none (frame f ls c.args.spans.now c.args.index) c.args.number c.args.stack.now.used ls (omega (arith, c.count_framed.ensures.size ls))
 
-pub returns-in-default : goal.returns-in-default
-returns-in-default c =
+pub returns-in_default : goal.returns-in_default
+returns-in_default c =
     let f = c.args.frames.now in
     let ls = c.args.literals.now in
     let ps = c.args.spans.now in
     let a = ap (λ m. m.clauses) c.before-first.ensures in
-    let n = c.count-framed.ensures.size ls in
+    let n = c.count_framed.ensures.size ls in
     let s = frame_count f ls ps c.args.index in
     let all = clauses_count f ls ps in
-    let h = c.in-default.ensures in
+    let h = c.in_default.ensures in
     copied_none (frame f ls ps c.args.index) c.args.number c.args.stack.now.used ls (omega arith)
 
 pub returns : goal.returns
@@ -32,10 +32,10 @@ returns c =
     let ps = c.args.spans.now in
     let i = c.args.index in
     let a = ap (λ m. m.clauses) c.before-first.ensures in
-    let n = c.count-framed.ensures.size ls in
+    let n = c.count_framed.ensures.size ls in
     let s = frame_count f ls ps i in
     let h = c.in-Some.ensures in
-    copied (frame f ls ps i) c.args.number c.args.stack.now.used c.push-again.new.self.used ls c.push-again.new.area c.push-again.result _
+    copied (frame f ls ps i) c.args.number c.args.stack.now.used c.push_again.new.self.used ls c.push_again.new.area c.push_again.result _
     (omega arith)
     (frame_at f ls ps i c.args.number (omega arith) ∙ ap (λ k. get_or (clauses_of f ls ps) (k + c.args.number) []) (sym a) ∙ sym h.3)
-    c.push-again.ensures
+    c.push_again.ensures

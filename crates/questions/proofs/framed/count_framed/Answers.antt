@@ -7,8 +7,8 @@ returns c =
     let f = c.args.frames.now in
     let u = ap (λ s. s.used) c.spans.ensures in
     let a = ap (λ m. m.clauses) c.before-2.ensures in
-    let b = c.frame-end.ensures.end in
+    let b = c.frame_end.ensures.end in
     record {
       size = λ ls. let n = frame_count f ls c.args.spans.now c.args.index in omega arith;
-      few = omega (arith, c.frame-end.ensures.few);
+      few = omega (arith, c.frame_end.ensures.few);
     }

@@ -4,10 +4,10 @@ use Rattle.stack.proofs.Places.{take_min}
 use Rattle.questions.proofs.FramedClauses.{clauses_count, clause_at}
 use Rattle.questions.proofs.framed.find_clause.Goals as goal
 
-pub returns-in-default : goal.returns-in-default
-returns-in-default c =
+pub returns-in_default : goal.returns-in_default
+returns-in_default c =
     let n = clauses_count c.args.frames.now c.args.literals.now c.args.spans.now in
-    let h = c.in-default.ensures in
+    let h = c.in_default.ensures in
     let u = ap (λ s. s.used) c.spans.ensures in
     omega arith
 

@@ -11,10 +11,10 @@ returns-in-Some c =
     let h = c.in-Some.ensures in
     let low = f.limits in
     let k = clauses_count f c.args.literals.now c.args.spans.now in
-    let e : c.saturating-add-place.result ≡ c.frame-end.result + c.args.clause = omega (arith, c.saturating-add-place.ensures, h.0) in
+    let e : c.saturating_add-place.result ≡ c.frame_end.result + c.args.clause = omega (arith, c.saturating_add-place.ensures, h.0) in
     record {
       order = (h.1, omega (arith, h.2), omega (arith, h.2));
-      marks = h.3 ∙ ap (λ k. get_or (clauses_of f c.args.literals.now c.args.spans.now) k []) (e ∙ ap (λ n. n + c.args.clause) c.frame-end.ensures.end);
+      marks = h.3 ∙ ap (λ k. get_or (clauses_of f c.args.literals.now c.args.spans.now) k []) (e ∙ ap (λ n. n + c.args.clause) c.frame_end.ensures.end);
     }
 
 pub returns-in-None : goal.returns-in-None
@@ -27,5 +27,5 @@ returns-in-None c =
     let k = clauses_count f c.args.literals.now c.args.spans.now in
     record {
       order = (omega arith, omega arith, omega arith);
-      marks = sym (get_or_past cs ((before_frame f (suc c.args.index)).clauses + c.args.clause) [] (omega (arith, c.saturating-add-place.ensures, c.frame-end.ensures.end)));
+      marks = sym (get_or_past cs ((before_frame f (suc c.args.index)).clauses + c.args.clause) [] (omega (arith, c.saturating_add-place.ensures, c.frame_end.ensures.end)));
     }

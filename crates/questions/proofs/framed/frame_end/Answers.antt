@@ -6,7 +6,7 @@ use Rattle.questions.proofs.framed.frame_end.Goals as goal
 pub returns : goal.returns
 returns c =
     let f = c.args.frames.now in
-    let e = ap (λ m. m.clauses) (c.before-2.ensures ∙ next_mark f c.args.index c.saturating-add.result (omega arith) (omega (arith, c.saturating-add.ensures))) in
+    let e = ap (λ m. m.clauses) (c.before-2.ensures ∙ next_mark f c.args.index c.saturating_add.result (omega arith) (omega (arith, c.saturating_add.ensures))) in
     let low = mark_low f (suc c.args.index) in
     let few = f.limits in
     record { end = e; few = omega arith }

@@ -6,5 +6,5 @@ use Rattle.questions.proofs.question.trace_questions.Goals as goal
 pub returns : goal.returns
 returns c =
     let f = c.args.frames.now in
-    let e : c.count-steps.result + c.last-frame.result + 2 ≡ questions_of c.args.frames.now = omega (arith, c.count-steps.ensures, c.last-frame.ensures) in
+    let e : c.count_steps.result + c.last_frame.result + 2 ≡ questions_of c.args.frames.now = omega (arith, c.count_steps.ensures, c.last_frame.ensures) in
     record { count = e; trace = λ m o ls ps s. e ∙ counted f ls ps s m o }

@@ -14,7 +14,7 @@ loop-step-smaller c = left_less _ _ _ _ c.in-Some.step c.in-Some.ensures c.next-
 
 pub loop-step-preserved : goal.loop-step-preserved
 loop-step-preserved c =
-    stepped_more _ _ _ _ c.loop-step.invariant c.in-Some.step c.in-Some.ensures _ c.in-ok-push.ensures.items _ _ c.next-record-in-Some.ensures.exact
+    stepped_more _ _ _ _ c.loop-step.invariant c.in-Some.step c.in-Some.ensures _ c.in_ok-push.ensures.items _ _ c.next-record-in-Some.ensures.exact
 
 pub returns : goal.returns
-returns c = stepped_whole _ _ _ _ c.loop-step.invariant c.ending-ending.result c.in-default.ensures c.ending-ending.ensures
+returns c = stepped_whole _ _ _ _ c.loop-step.invariant c.ending-ending.result c.in_default.ensures c.ending-ending.ensures

@@ -10,10 +10,10 @@ returns-then-number-eq0 c =
 pub returns-then-row-rows : goal.returns-then-row-rows
 returns-then-row-rows c =
     let t = table_of c.args.self.now.bytes.now in
-    sym (clause_past t c.args.number c.per-row-per-row.result c.per-row-per-row.ensures c.if-number-eq0.false (omega (arith, c.rows.ensures)))
+    sym (clause_past t c.args.number c.per_row-per_row.result c.per_row-per_row.ensures c.if-number-eq0.false (omega (arith, c.rows.ensures)))
 
 pub returns : goal.returns
 returns c =
     let t = table_of c.args.self.now.bytes.now in
-    ap Some c.row-clause.ensures
-    ∙ sym (clause_row t c.args.number c.per-row-per-row.result c.per-row-per-row.ensures c.if-number-eq0.false (omega (arith, c.rows.ensures)))
+    ap Some c.row_clause.ensures
+    ∙ sym (clause_row t c.args.number c.per_row-per_row.result c.per_row-per_row.ensures c.if-number-eq0.false (omega (arith, c.rows.ensures)))

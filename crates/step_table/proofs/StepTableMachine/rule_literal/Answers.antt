@@ -8,7 +8,7 @@ pub returns-then-rule-rules : goal.returns-then-rule-rules
 returns-then-rule-rules c =
     let t = table_of c.args.self.now.bytes.now in
     let rule = c.args.rule in
-    let v : 2 * (c.first-outcome.result + c.state-bits.result + rule) ≡ 2 * rule_variable t rule = omega (arith, c.first-outcome.ensures, c.state-bits.ensures) in
+    let v : 2 * (c.first_outcome.result + c.state_bits.result + rule) ≡ 2 * rule_variable t rule = omega (arith, c.first_outcome.ensures, c.state_bits.ensures) in
     ap Some v ∙ sym (made_at (λ o. 2 * rule_variable t o) t.rules rule (omega arith))
 
 pub returns-else-rule-rules : goal.returns-else-rule-rules

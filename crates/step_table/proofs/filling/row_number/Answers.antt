@@ -2,11 +2,11 @@ use Rattle.std.proofs.Common.{ℕ, ◌+◌, ◌-◌, ◌*◌, get_or, ap, ◌∙
 use Rattle.step_table.proofs.RowNumbers.{number_more, number_small}
 use Rattle.step_table.proofs.filling.row_number.Goals as goal
 
-pub overflow-mul-sum : goal.overflow-mul-sum
-overflow-mul-sum c = omega (arith, c.loop-k.invariant, number_small c.args.row.now c.args.given c.loop-k.k (omega arith) (omega arith) (omega arith))
+pub overflow_mul-sum : goal.overflow_mul-sum
+overflow_mul-sum c = omega (arith, c.loop-k.invariant, number_small c.args.row.now c.args.given c.loop-k.k (omega arith) (omega arith) (omega arith))
 
-pub overflow-add-sum-in-loop-k : goal.overflow-add-sum-in-loop-k
-overflow-add-sum-in-loop-k c =
+pub overflow_add-sum-in-loop-k : goal.overflow_add-sum-in-loop-k
+overflow_add-sum-in-loop-k c =
     let row = c.args.row.now in
     let k = c.loop-k.k in
     omega (arith, c.loop-k.invariant, c.type_inv.row (1 + (k - 1)), number_small row c.args.given k (omega arith) (omega arith) (omega arith))

@@ -11,4 +11,4 @@ loop-k-init c = paste_none c.args.row.now c.args.first (bit_bytes c.args.value c
 pub loop-k-preserved : goal.loop-k-preserved
 loop-k-preserved c =
     written_more (binary_digit c.args.value) c.args.row.now c.loop-k.row c.args.first c.args.count c.loop-k.k c.from.result
-    c.bit-of.result c.loop-k.invariant (omega arith) (omega arith) c.from.ensures c.bit-of.ensures
+    c.bit_of.result c.loop-k.invariant (omega arith) (omega arith) c.from.ensures c.bit_of.ensures

@@ -26,6 +26,6 @@ returns g c =
     let xs = part ls c.args.next.start c.args.next.end in
     let k = length_part ls c.args.next.start c.args.next.end c.requires.0 c.requires.1 in
     let e = part_at ls c.args.next.start c.args.next.end n (omega arith) in
-    copied_denied m xs n c.args.stack.now.used c.push.new.self.used ls c.push.new.area c.push.result c.deny-next.result (omega arith)
-    (ap (λ x. x ∷ []) (c.deny-next.ensures ∙ ap (λ l. denial (min (moved m 1 l) 4294967295)) (sym e)))
+    copied_denied m xs n c.args.stack.now.used c.push.new.self.used ls c.push.new.area c.push.result c.deny_next.result (omega arith)
+    (ap (λ x. x ∷ []) (c.deny_next.ensures ∙ ap (λ l. denial (min (moved m 1 l) 4294967295)) (sym e)))
     c.push.ensures

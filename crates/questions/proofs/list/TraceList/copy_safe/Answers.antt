@@ -12,20 +12,20 @@ unfolding safe_question
 returns-then-number-rows g c =
     let m = g.M.Machine.meaning c.args.self.now.machine.now in
     let ls = c.args.literals.now in
-    let u = c.count-rows-rows.ensures.size in
+    let u = c.count_rows-rows.ensures.size in
     copied_row m 0 (frame c.args.self.now.frames.now ls c.args.spans.now c.args.index) ((get_or m.rule c.args.self.now.rule 0 ∷ []) ∷ [])
-    c.args.number c.args.stack.now.used c.copy-row.new.stack.used ls c.copy-row.new.literals c.copy-row.result (omega arith) c.copy-row.ensures
+    c.args.number c.args.stack.now.used c.copy_row.new.stack.used ls c.copy_row.new.literals c.copy_row.result (omega arith) c.copy_row.ensures
 
 pub returns-then-number-rows-2 : goal.returns-then-number-rows-2
 unfolding safe_question
 returns-then-number-rows-2 g c =
     let m = g.M.Machine.meaning c.args.self.now.machine.now in
     let ls = c.args.literals.now in
-    let u = c.count-rows-rows.ensures.size in
-    let n = c.count-framed-framed.ensures.size ls in
+    let u = c.count_rows-rows.ensures.size in
+    let n = c.count_framed-framed.ensures.size ls in
     copied_framed m 0 (frame c.args.self.now.frames.now ls c.args.spans.now c.args.index) ((get_or m.rule c.args.self.now.rule 0 ∷ []) ∷ [])
-    c.args.number c.args.stack.now.used c.copy-framed.new.stack.used ls c.copy-framed.new.literals c.copy-framed.result
-    (c.args.number - c.count-rows-rows.result) (omega arith) (omega arith) c.copy-framed.ensures
+    c.args.number c.args.stack.now.used c.copy_framed.new.stack.used ls c.copy_framed.new.literals c.copy_framed.result
+    (c.args.number - c.count_rows-rows.result) (omega arith) (omega arith) c.copy_framed.ensures
 
 pub returns-then-number-rows-3 : goal.returns-then-number-rows-3
 unfolding safe_question
@@ -34,8 +34,8 @@ returns-then-number-rows-3 g c =
     let ls = c.args.literals.now in
     let cs = frame c.args.self.now.frames.now ls c.args.spans.now c.args.index in
     let all = sections_count m 0 cs ((get_or m.rule c.args.self.now.rule 0 ∷ []) ∷ []) in
-    let u = c.count-rows-rows.ensures.size in
-    let n = c.count-framed-framed.ensures.size ls in
+    let u = c.count_rows-rows.ensures.size in
+    let n = c.count_framed-framed.ensures.size ls in
     copied_none (safe_question m c.args.self.now.rule cs) c.args.number c.args.stack.now.used ls (omega arith)
 
 pub returns : goal.returns
@@ -44,11 +44,11 @@ returns g c =
     let m = g.M.Machine.meaning c.args.self.now.machine.now in
     let ls = c.args.literals.now in
     let rule = get_or m.rule c.args.self.now.rule 0 in
-    let u = c.count-rows-rows.ensures.size in
-    let n = c.count-framed-framed.ensures.size ls in
-    let b : c.unwrap-or-broken.result ≡ get_or m.rule c.args.self.now.rule 0 =
-    got_or m.rule c.args.self.now.rule 0 c.unwrap-or-broken.result c.rule-literal.result c.rule-literal.ensures c.unwrap-or-broken.ensures in
+    let u = c.count_rows-rows.ensures.size in
+    let n = c.count_framed-framed.ensures.size ls in
+    let b : c.unwrap_or-broken.result ≡ get_or m.rule c.args.self.now.rule 0 =
+    got_or m.rule c.args.self.now.rule 0 c.unwrap_or-broken.result c.rule_literal.result c.rule_literal.ensures c.unwrap_or-broken.ensures in
     copied_asked m 0 (frame c.args.self.now.frames.now ls c.args.spans.now c.args.index) ((rule ∷ []) ∷ [])
     c.args.number c.args.stack.now.used c.push.new.self.used ls c.push.new.area c.push.result
     0 (omega arith)
-    (copied ((rule ∷ []) ∷ []) 0 c.args.stack.now.used c.push.new.self.used ls c.push.new.area c.push.result (c.unwrap-or-broken.result ∷ []) (omega arith) (ap (λ x. x ∷ []) (sym b)) c.push.ensures)
+    (copied ((rule ∷ []) ∷ []) 0 c.args.stack.now.used c.push.new.self.used ls c.push.new.area c.push.result (c.unwrap_or-broken.result ∷ []) (omega arith) (ap (λ x. x ∷ []) (sym b)) c.push.ensures)

@@ -12,6 +12,6 @@ returns g c =
     let ls = c.args.literals.now in
     let cs = frame f ls c.args.spans.now c.args.index in
     let all = sections_count m 0 cs ((get_or m.rule c.args.self.now.rule 0 ∷ []) ∷ []) in
-    let u = c.count-rows-rows.ensures.size in
-    let n = c.count-framed.ensures.size ls in
+    let u = c.count_rows-rows.ensures.size in
+    let n = c.count_framed.ensures.size ls in
     omega arith

@@ -16,10 +16,10 @@ returns g c =
     let cs = frame f ls ps c.args.index in
     let next = next_clause f ls ps c.args.index c.args.clause in
     let all = sections_count m 1 cs (map (denied_next m) next) in
-    let u = c.count-rows-rows.ensures.size in
-    let n = c.count-framed-framed.ensures.size ls in
-    let o = c.find-next-next.ensures.order in
-    let k = length_part ls c.find-next-next.result.start c.find-next-next.result.end o.0 o.1 in
-    let l = ap length c.find-next-next.ensures.marks in
+    let u = c.count_rows-rows.ensures.size in
+    let n = c.count_framed-framed.ensures.size ls in
+    let o = c.find_next-next.ensures.order in
+    let k = length_part ls c.find_next-next.result.start c.find_next-next.result.end o.0 o.1 in
+    let l = ap length c.find_next-next.ensures.marks in
     let w = length-map next (denied_next m) in
     omega arith

@@ -12,16 +12,16 @@ returns-then-place-given c =
 pub returns-then-place-given-2 : goal.returns-then-place-given-2
 returns-then-place-given-2 c =
     let t = table_of c.args.self.now.bytes.now in
-    meets t c.args.row c.given-given.result c.args.place c.given-given.ensures (listed c.given-clause.result) c.if-place-given-2.true c.given-clause.ensures
+    meets t c.args.row c.given-given.result c.args.place c.given-given.ensures (listed c.given_clause.result) c.if-place-given-2.true c.given_clause.ensures
 
-pub returns-then-outcome-state-bits : goal.returns-then-outcome-state-bits
-returns-then-outcome-state-bits c =
+pub returns-then-outcome-state_bits : goal.returns-then-outcome-state_bits
+returns-then-outcome-state_bits c =
     let t = table_of c.args.self.now.bytes.now in
     let given = c.given-given.result in
     let k : ℕ = c.args.place - given - 1 in
-    c.of-then-outcome-state-bits.ensures
-    ∙ steps t c.args.row given c.args.place c.given-given.ensures c.literal-then-outcome-state-bits.result (c.first-outcome.result + k) k c.next-state.result
-    (omega arith) (omega arith) (omega arith) (omega (arith, c.given-given.ensures, c.first-outcome.ensures)) c.next-state.ensures c.literal-then-outcome-state-bits.ensures
+    c.of-then-outcome-state_bits.ensures
+    ∙ steps t c.args.row given c.args.place c.given-given.ensures c.literal-then-outcome-state_bits.result (c.first_outcome.result + k) k c.next_state.result
+    (omega arith) (omega arith) (omega arith) (omega (arith, c.given-given.ensures, c.first_outcome.ensures)) c.next_state.ensures c.literal-then-outcome-state_bits.ensures
 
 pub returns : goal.returns
 returns c =
@@ -29,6 +29,6 @@ returns c =
     let given = c.given-given.result in
     let k : ℕ = c.args.place - given - 1 in
     c.of-2.ensures
-    ∙ breaks t c.args.row given c.args.place c.given-given.ensures c.literal-2.result (c.first-outcome.result + k) (k - c.state-bits-state-bits.result) c.broken-rules.result
-    (omega (arith, c.state-bits-state-bits.ensures)) (omega (arith, c.state-bits-state-bits.ensures))
-    (omega (arith, c.given-given.ensures, c.state-bits-state-bits.ensures, c.requires.1)) (omega (arith, c.given-given.ensures, c.state-bits-state-bits.ensures, c.first-outcome.ensures)) c.broken-rules.ensures c.literal-2.ensures
+    ∙ breaks t c.args.row given c.args.place c.given-given.ensures c.literal-2.result (c.first_outcome.result + k) (k - c.state_bits-state_bits.result) c.broken_rules.result
+    (omega (arith, c.state_bits-state_bits.ensures)) (omega (arith, c.state_bits-state_bits.ensures))
+    (omega (arith, c.given-given.ensures, c.state_bits-state_bits.ensures, c.requires.1)) (omega (arith, c.given-given.ensures, c.state_bits-state_bits.ensures, c.first_outcome.ensures)) c.broken_rules.ensures c.literal-2.ensures

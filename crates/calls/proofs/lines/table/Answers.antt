@@ -2,10 +2,10 @@ use Rattle.std.proofs.Common.{◌≡◌, sym, refl, ap, ◌∙◌, subst}
 use Rattle.calls.specs.Lines.{Name}
 use Rattle.calls.proofs.lines.table.Goals as goal
 
-pub returns-in-err-name : goal.returns-in-err-name
-returns-in-err-name c = rw c.from-residual.ensures c.in-err-name.ensures
+pub returns-in_err-name : goal.returns-in_err-name
+returns-in_err-name c = rw c.from_residual.ensures c.in_err-name.ensures
 
 pub returns : goal.returns
 returns c =
-    let file = c.in-ok-name.ensures in
+    let file = c.in_ok-name.ensures in
     (subst Name (sym file.0) file.1, refl, sym file.0)

@@ -11,13 +11,13 @@ note-requires g c =
     let areas : Areas = record { row = length c.args.row.now; literals = length c.args.literals.now; spans = length c.args.spans.now } in
     record {
       sound = c.args.self.now.sound;
-      room = ltb-true c.args.self.now.book.tally.handed_in most (sym c.if-not-has-room.ensures);
+      room = ltb-true c.args.self.now.book.tally.handed_in most (sym c.if-not-has_room.ensures);
       inside = accepted_inside (g.M.Machine.meaning m) (g.M.Machine.lawful m) c.args.rule c.args.bytes.now areas c.check-result.result c.check-result.ensures.answer;
     }
 
-pub invariant-of-self : goal.invariant-of-self
-invariant-of-self g c =
+pub invariant_of-self : goal.invariant_of-self
+invariant_of-self g c =
     let m = c.args.self.now.machine.now in
     let areas : Areas = record { row = length c.args.row.now; literals = length c.args.literals.now; spans = length c.args.spans.now } in
     let inside = accepted_inside (g.M.Machine.meaning m) (g.M.Machine.lawful m) c.args.rule c.args.bytes.now areas c.check-result.result c.check-result.ensures.answer in
-    (sound_after_note c.args.self.now.book c.note.new.self c.args.rule c.check-result.result c.note.ensures c.args.self.now.sound c.if-not-has-room.ensures inside, tt)
+    record { sound = sound_after_note c.args.self.now.book c.note.new.self c.args.rule c.check-result.result c.note.ensures c.args.self.now.sound c.if-not-has_room.ensures inside }

@@ -12,9 +12,9 @@ loop-rule-preserved g c = λ plain.
     let standings = c.args.self.now.0.standings in
     let rule = c.loop-rule.rule-counter in
     let so_far = c.loop-rule.invariant plain in
-    let new = c.in-ok-write.ensures.shows so_far.plain refl in
-    let written : List ℕ = decimal rule ++ (codes " " ++ (c.standing-name-standing.result.now ++ codes "; ")) in
-    let named : written ≡ rule_text standings rule = ap (λ (name : List ℕ). decimal rule ++ (codes " " ++ (name ++ codes "; "))) c.standing-name-standing.ensures in
+    let new = c.in_ok-write.ensures.shows so_far.plain refl in
+    let written : List ℕ = decimal rule ++ (codes " " ++ (c.standing_name-standing.result.now ++ codes "; ")) in
+    let named : written ≡ rule_text standings rule = ap (λ (name : List ℕ). decimal rule ++ (codes " " ++ (name ++ codes "; "))) c.standing_name-standing.ensures in
     let more : rules_text standings rule ++ written ≡ rules_text standings (rule + 1) =
     ap (λ (text : List ℕ). rules_text standings rule ++ text) named ∙ ap (rules_text standings) (sym (add-one rule)) in
     has_written_of_eq took c.args.f.now (rules_text standings rule ++ written) (rules_text standings (rule + 1)) c.write.new.self more

@@ -20,7 +20,7 @@ loop-literal-preserved g c = λ plain.
     let xs = c.args.self.now.literals.now in
     let i = c.loop-literal.literal-index in
     let so_far = c.loop-literal.invariant plain in
-    let new = c.in_ok-write-2.ensures.shows so_far.plain refl in
+    let new = c.in_ok-write-2.ensures.writes so_far.plain refl in
     has_written_of_eq took c.write.new.self (flat_map spaced (take i xs) ++ spaced (get_or xs i 0)) (flat_map spaced (take (i + 1) xs)) c.write-in-loop-literal.new.self
     (one_more xs i (omega arith))
     (has_written_append took c.write.new.self (flat_map spaced (take i xs)) c.loop-literal.f (spaced (get_or xs i 0)) c.write-in-loop-literal.new.self so_far new)
@@ -30,7 +30,7 @@ returns-clause-writes g c = λ plain ok.
     let took = g.W.Write.write_str_gives in
     let xs = c.args.self.now.literals.now in
     let n = c.args.self.now.number in
-    let first = c.in_ok-write.ensures.shows plain refl in
+    let first = c.in_ok-write.ensures.writes plain refl in
     let rest = c.loop-literal.invariant first.plain in
     let all : flat_map spaced (take c.loop-literal.literal-index xs) ≡ flat_map spaced xs = ap (flat_map spaced) (take_all c.loop-literal.literal-index xs (omega arith)) in
     has_written_of_eq took c.args.f.now ((codes "  " ++ (decimal n ++ codes ":")) ++ flat_map spaced (take c.loop-literal.literal-index xs)) (codes "  " ++ (decimal n ++ (codes ":" ++ flat_map spaced xs))) c.loop-literal.f

@@ -1,5 +1,5 @@
 -- What a lawful certificate shows.
-use Rattle.std.proofs.Common.{◌≡◌, ℕ, ◌<◌, ◌≤◌, Bool, ◌↔◌, List, [], length, Ok, Err, Result, sym, ◌∙◌, arith}
+use Rattle.std.proofs.Common.{◌≡◌, ℕ, ◌<◌, Bool, ◌↔◌, List, [], Ok, Err, Result, sym, ◌∙◌, arith}
 use Rattle.std.proofs.ByRecursion.{All-get_or}
 use Rattle.refusal.specs.declared.faults.Refusal.{Refusal}
 use Rattle.machine.specs.Meaning.{Meaning, Lawful}

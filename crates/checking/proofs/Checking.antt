@@ -1,5 +1,5 @@
 -- What each way out of the check says.
-use Rattle.std.proofs.Common.{◌≡◌, ℕ, ◌+◌, ◌≤◌, true, List, ◌++◌, length, Ok, Err, Result, sym, refl, ap, ◌∙◌, subst, ap₂, arith}
+use Rattle.std.proofs.Common.{◌≡◌, ℕ, ◌+◌, List, length, Ok, Err, Result, sym, refl, ap, ◌∙◌, ap₂, arith}
 use Rattle.std.proofs.lemmas.List.{length-append}
 use Rattle.std.proofs.lemmas.Bool.{cond-true}
 use Rattle.refusal.specs.declared.faults.CertificateRefusal.{CertificateRefusal}
@@ -19,7 +19,7 @@ use Rattle.opening.specs.Views.{contents, shown}
 use Rattle.opening.specs.Openings.{opening_records, Reads}
 use Rattle.checking.specs.Asked.{Areas}
 use Rattle.checking.specs.Begun.{Opened}
-use Rattle.checking.specs.Verdicts.{admitted, proved, accepting, checked, are_bytes, verdict}
+use Rattle.checking.specs.Verdicts.{admitted, proved, accepting, are_bytes, verdict}
 use Rattle.checking.specs.declared.Accepted.{Accepted}
 use Rattle.checking.proofs.Written.{bytes_tested}
 use Rattle.checking.proofs.Exactly.{fits_from, fits_admitted}

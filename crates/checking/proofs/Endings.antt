@@ -13,7 +13,7 @@ use Rattle.certificate.proofs.Codes.{reads, was_written}
 use Rattle.certificate.proofs.Accepting.{err_ok}
 use Rattle.refuting.specs.Rooms.{Room}
 use Rattle.refuting.specs.Reading.{Outcome, refutation_read}
-use Rattle.refuting.specs.Refutations.{Step, records, RefutationIn}
+use Rattle.refuting.specs.Refutations.{Step, records}
 use Rattle.refuting.proofs.Accepting.{accepts}
 use Rattle.checking.specs.Lawful.{RefuteEach}
 use Rattle.checking.specs.Verdicts.{is_ending, by_record, refused, ending, onward, refuted}

@@ -1,5 +1,5 @@
 -- The verdict accepts exactly the lawful certificates.
-use Rattle.std.proofs.Common.{◌≡◌, ℕ, ◌+◌, ◌<◌, ◌≤◌, Bool, true, false, cond, ◌&&◌, ltb, leb, ◌↔◌, List, [], ◌∷◌, ◌++◌, length, Ok, Err, Result, sym, refl, ap, ◌∙◌, subst, append_assoc, arith}
+use Rattle.std.proofs.Common.{◌≡◌, ℕ, ◌+◌, ◌<◌, ◌≤◌, true, ◌&&◌, ltb, leb, List, [], ◌∷◌, ◌++◌, length, Ok, Err, Result, sym, refl, ap, ◌∙◌, subst, arith}
 use Rattle.std.specs.List.{flat_map}
 use Rattle.std.proofs.lemmas.List.{length-append}
 use Rattle.std.proofs.lemmas.Bool.{ltb-true, leb-true, lt-ltb, le-leb, and_from, and_parts, cond-true}
@@ -20,7 +20,7 @@ use Rattle.opening.specs.declared.opening.Claim.{Claim}
 use Rattle.opening.specs.declared.opening.Claim.TheVariants.{Trace, Induction, Counterexample as Broken}
 use Rattle.opening.specs.Steps.{room_in}
 use Rattle.opening.specs.Reading.{Contents, Answer, reading}
-use Rattle.opening.specs.Openings.{opening_records, Proper, Opens}
+use Rattle.opening.specs.Openings.{opening_records, Opens}
 use Rattle.opening.proofs.Accepting.{accepts}
 use Rattle.refuting.specs.Refutations.{records}
 use Rattle.checking.specs.declared.Accepted.{Accepted}
@@ -29,7 +29,7 @@ use Rattle.checking.specs.Lawful.{proof_records, Proof, LawfulCertificate}
 use Rattle.checking.specs.Lawful as lawful
 use Rattle.checking.specs.Verdicts.{admitted, refuted, by_claim, proved, accepting, checked, are_bytes, verdict}
 use Rattle.checking.proofs.Written.{encodes_append, bytes_behind, bytes_tested, tested_all, all_bytes}
-use Rattle.checking.proofs.Endings.{when_ok, Proved, refuted_proved, proved_refuted}
+use Rattle.checking.proofs.Endings.{when_ok, refuted_proved, proved_refuted}
 use Rattle.checking.proofs.OpeningsRead.{opens}
 
 carried_ok : {X Y E : Type 0} (up : E → Refusal) (r : Result X E) (next : X → Result Y Refusal) (y : Y) → carried up r next ≡ Ok y → (x : X) × (r ≡ Ok x) × (next x ≡ Ok y)

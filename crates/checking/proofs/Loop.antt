@@ -1,12 +1,12 @@
 -- The questions of a claim are put one after another.
-use Rattle.std.proofs.Common.{◌≡◌, ℕ, zero, suc, ◌+◌, ◌-◌, ◌<◌, ◌≤◌, true, List, [], ◌∷◌, ◌++◌, length, get_or, take, drop, Ok, Err, Result, sym, refl, ap, ◌∙◌, subst, ap₂, append-nil, arith}
+use Rattle.std.proofs.Common.{◌≡◌, ℕ, ◌+◌, ◌-◌, ◌<◌, ◌≤◌, true, List, [], ◌∷◌, ◌++◌, length, get_or, take, drop, Ok, Err, Result, sym, refl, ap, ◌∙◌, subst, ap₂, append-nil, arith}
 use Rattle.std.proofs.lemmas.List.{length-append, drop_more, drop_all}
 use Rattle.refusal.specs.declared.faults.CertificateRefusal.{CertificateRefusal}
 use Rattle.stack.specs.declared.spans.Span.{Span}
 use Rattle.stack.specs.declared.Stack.{Stack}
 use Rattle.resolution.specs.Outcomes as refutation
 use Rattle.frames.specs.declared.frames.Frames.{Frames}
-use Rattle.frames.specs.Held.{flat, open_frame, open_clause}
+use Rattle.frames.specs.Held.{flat}
 use Rattle.machine.specs.Meaning.{Meaning}
 use Rattle.certificate.specs.declared.cursor.Cursor.{Cursor}
 use Rattle.certificate.specs.declared.record.Record.{Record}
@@ -19,8 +19,8 @@ use Rattle.opening.proofs.HeldFrames.{clauses_used, literals_used}
 use Rattle.refuting.specs.declared.Below.{Below}
 use Rattle.refuting.specs.Rooms as rooms
 use Rattle.refuting.specs.Rooms.{Room, Ready}
-use Rattle.refuting.specs.Reading.{Outcome, refutation_read}
-use Rattle.refuting.specs.Refutations.{records, RefutationIn, Shows}
+use Rattle.refuting.specs.Reading.{refutation_read}
+use Rattle.refuting.specs.Refutations.{records, Shows}
 use Rattle.refuting.specs.Checked.{Checked}
 use Rattle.checking.specs.Asked.{questions, room_above}
 use Rattle.checking.specs.Verdicts.{ending, refuted, refutations}

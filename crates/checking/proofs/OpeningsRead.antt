@@ -7,7 +7,6 @@ use Rattle.certificate.specs.declared.record.Record.{Record}
 use Rattle.certificate.specs.Records.{read, Bytes}
 use Rattle.certificate.proofs.Codes.{was_written, longer, bytes_after}
 use Rattle.certificate.proofs.Accepting.{err_ok}
-use Rattle.opening.specs.declared.opening.Claim.{Claim}
 use Rattle.opening.specs.Steps.{Room, View, opening, framing, opened, step}
 use Rattle.opening.specs.Reading.{Contents, Answer, reading}
 use Rattle.opening.specs.Openings.{Opens}

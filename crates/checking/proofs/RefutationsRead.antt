@@ -1,5 +1,5 @@
 -- What is read as a refutation is one.
-use Rattle.std.proofs.Common.{◌≡◌, ℕ, zero, suc, ◌+◌, ◌-◌, ◌<◌, List, [], ◌∷◌, ◌++◌, length, take, Some, None, Ok, Err, Option, Result, sym, refl, ap, ◌∙◌, subst, append_assoc, arith}
+use Rattle.std.proofs.Common.{◌≡◌, ℕ, zero, suc, ◌+◌, ◌-◌, List, [], ◌∷◌, ◌++◌, length, take, Some, None, Ok, Err, Option, Result, sym, refl, ap, ◌∙◌, append_assoc, arith}
 use Rattle.std.proofs.lemmas.List.{length_push}
 use Rattle.refusal.specs.declared.faults.CertificateFault.{CertificateFault}
 use Rattle.refusal.specs.declared.faults.CertificateRefusal.{CertificateRefusal}
@@ -9,7 +9,7 @@ use Rattle.certificate.proofs.Codes.{was_written, bytes_after}
 use Rattle.certificate.proofs.Accepting.{err_ok}
 use Rattle.refuting.specs.Rooms.{Room}
 use Rattle.refuting.specs.Reading.{Move, made, ended, move, Outcome, reading, refutation_read}
-use Rattle.refuting.specs.Refutations.{Leads, record_of, records, RefutationIn}
+use Rattle.refuting.specs.Refutations.{record_of, records, RefutationIn}
 use Rattle.refuting.proofs.Turns.{reading_none, reading_stops, reading_ends, reading_goes}
 use Rattle.refuting.proofs.Stepping.{move_steps, move_ends, ends_empty}
 use Rattle.refuting.proofs.Loop.{RestIn}

@@ -1,5 +1,5 @@
 -- A list that is refuted has no setting that satisfies it.
-use Rattle.std.proofs.Common.{ℕ, List, [], ◌∷◌, ◌++◌, length, get_or, subst}
+use Rattle.std.proofs.Common.{ℕ, List, [], ◌∷◌, ◌++◌, get_or, subst}
 use Rattle.std.specs.List.{AllByRecursion as All}
 use Rattle.std.proofs.ByRecursion.{All-push, All-get_or}
 use Rattle.resolution.specs.Clauses.{Unsat}

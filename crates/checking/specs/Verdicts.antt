@@ -1,5 +1,5 @@
 -- What the check of a certificate says of bytes: a refusal names the first record at which, and the first question to which, the answer is no.
-use Rattle.std.specs.Prelude.{◌≡◌, ℕ, ◌+◌, ◌-◌, Bool, true, false, cond, ◌&&◌, List, [], ◌∷◌, length, Some, None, Ok, Err, Option, Result, ◌==◌, nat_le, nat_lt}
+use Rattle.std.specs.Prelude.{ℕ, ◌+◌, ◌-◌, Bool, true, false, cond, ◌&&◌, List, [], ◌∷◌, length, Some, None, Ok, Err, Option, Result, ◌==◌, nat_le, nat_lt}
 use Rattle.refusal.specs.declared.faults.CertificateFault.{CertificateFault}
 use Rattle.refusal.specs.declared.faults.CertificateFault.TheVariants.{NoRecord, OutOfPlace}
 use Rattle.refusal.specs.declared.faults.CertificateRefusal.{CertificateRefusal}
@@ -17,7 +17,7 @@ use Rattle.opening.specs.declared.opening.Claim.TheVariants.{Trace, Induction, C
 use Rattle.opening.specs.Steps.{room_in}
 use Rattle.opening.specs.Reading.{Contents, reading}
 use Rattle.refuting.specs.Rooms.{Room}
-use Rattle.refuting.specs.Reading.{Outcome, refutation_read}
+use Rattle.refuting.specs.Reading.{refutation_read}
 use Rattle.checking.specs.declared.Accepted.{Accepted}
 use Rattle.checking.specs.Asked.{questions, room_above}
 pub use Rattle.checking.specs.Asked.{Areas}

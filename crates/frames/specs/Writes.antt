@@ -1,5 +1,5 @@
 -- What becomes of frames as literals, ends of clauses and ends of frames are written.
-use Rattle.std.specs.Prelude.{◌≡◌, ℕ, ◌+◌, ◌-◌, ◌<◌, Bool, true, false, cond, List, [], ◌∷◌, ◌++◌, length, slice_set}
+use Rattle.std.specs.Prelude.{◌≡◌, ℕ, ◌+◌, ◌-◌, ◌<◌, Bool, true, false, cond, List, [], ◌∷◌, ◌++◌, slice_set}
 use Rattle.stack.specs.declared.spans.Span.{Span}
 use Rattle.stack.specs.Pushes.{placed}
 use Rattle.frames.specs.declared.frames.Frames.{Frames}

@@ -1,6 +1,5 @@
 -- The number of each fault, and what a refusal tells: one definition for each enum.
 use Rattle.std.specs.Prelude.{cond, ℕ, eqb}
-use Rattle.refusal.specs.declared.faults.Layer.{Layer}
 use Rattle.refusal.specs.declared.faults.Layer.TheVariants as layer
 use Rattle.refusal.specs.declared.faults.TextFault.{TextFault}
 use Rattle.refusal.specs.declared.faults.TextFault.TheVariants.{Header, Sum, Bounds, ShortArea, Form, FirstNumber, Literal}

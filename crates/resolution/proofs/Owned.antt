@@ -1,8 +1,8 @@
 -- The clauses of a refutation, by the spans of the areas.
-use Rattle.std.proofs.Common.{◌≡◌, ℕ, ◌+◌, ◌-◌, ◌<◌, ◌≤◌, min, true, List, [], ◌∷◌, ◌++◌, map, length, get_or, take, drop, set, Ok, sym, refl, ap, ◌∙◌, subst, arith}
+use Rattle.std.proofs.Common.{◌≡◌, ℕ, ◌+◌, ◌-◌, ◌<◌, ◌≤◌, min, true, List, [], ◌∷◌, ◌++◌, length, get_or, take, drop, set, Ok, sym, refl, ap, ◌∙◌, subst, arith}
 use Rattle.std.specs.List.{AllByRecursion as All}
 use Rattle.std.proofs.ByRecursion.{All-weaker, All-push}
-use Rattle.std.proofs.lemmas.List.{length-drop, length-take, length-map, get_or-map, get_or-take, get_or-drop, take_all, take-take, take_at, drop_at, drop-take, drop-set-add, take_more_set, map_push, length-append}
+use Rattle.std.proofs.lemmas.List.{length-drop, length-take, length-map, get_or-map, get_or-take, get_or-drop, take_all, take-take, take_at, drop_at, drop-take, drop-set-add, take_more_set, map_push}
 use Rattle.stack.specs.declared.spans.Span.{Span}
 use Rattle.stack.specs.Pushes.{placed}
 use Rattle.stack.specs.Runs.{run, runs}
@@ -10,7 +10,7 @@ use Rattle.stack.proofs.Places.{placed_one, length_placed, take_placed, below_pl
 use Rattle.resolution.specs.Lists.{numbered_clause}
 use Rattle.resolution.specs.declared.refutation.Refutation.{Refutation}
 use Rattle.resolution.specs.Outcomes.{admitted}
-use Rattle.resolution.specs.States.{own_of, own, grown, written, noted, fresh, entries, Standing, Kept, Goes_on}
+use Rattle.resolution.specs.States.{own_of, own, grown, written, noted, fresh, entries, Standing, Goes_on}
 
 module _ (n a m : ℕ) (ls : List ℕ) (ps : List Span) where
   pub length_own : length (own_of n a m ls ps) ≡ min (m - a) (length ps - a)

@@ -1,7 +1,7 @@
 -- Parts of an area, and a merge that goes through two of them.
-use Rattle.std.proofs.Common.{◌≡◌, ℕ, zero, suc, ◌+◌, ◌-◌, ◌<◌, ◌≤◌, min, Bool, true, false, cond, eqb, ltb, List, [], ◌∷◌, ◌++◌, length, get_or, take, drop, set, sym, refl, ap, ◌∙◌, subst, ⊎_elim, arith}
+use Rattle.std.proofs.Common.{◌≡◌, ℕ, suc, ◌+◌, ◌-◌, ◌<◌, ◌≤◌, min, cond, eqb, ltb, List, [], ◌∷◌, ◌++◌, length, get_or, take, drop, set, sym, ap, ◌∙◌, ⊎_elim, arith}
 use Rattle.std.proofs.lemmas.Bool.{eq-eqb, ne_eqb, cond-true, cond-false, cond_both, cases_eq, lt-ltb, le-ltb}
-use Rattle.std.proofs.lemmas.List.{take_more_set, take-take, drop-take, drop_more, drop-drop, drop-set-add, drop-set-lt, set-get_or, length-drop, length-take, take_more, get_or-drop, append_assoc, append-nil, take-append-drop, length-append, take-set-le}
+use Rattle.std.proofs.lemmas.List.{take_more_set, take-take, drop-take, drop_more, drop-drop, drop-set-add, drop-set-lt, set-get_or, length-drop, length-take, append_assoc, append-nil, take-append-drop, length-append, take-set-le}
 use Rattle.stack.specs.Pushes.{placed}
 use Rattle.stack.specs.Runs.{part}
 use Rattle.resolution.specs.Resolvents.{merge_with, merge, without}

@@ -1,5 +1,5 @@
 -- Which way a step goes, and what comes of it.
-use Rattle.std.proofs.Common.{◌≡◌, ℕ, ◌+◌, ◌-◌, ◌<◌, ◌≤◌, Bool, true, false, cond, ◌&&◌, eqb, ltb, leb, List, [], ◌∷◌, ◌++◌, length, get_or, Ok, Err, Result, sym, refl, ap, ◌∙◌, subst, arith}
+use Rattle.std.proofs.Common.{◌≡◌, ℕ, ◌+◌, ◌-◌, ◌<◌, ◌≤◌, true, false, cond, ◌&&◌, ltb, leb, List, [], ◌∷◌, ◌++◌, length, Ok, Err, Result, sym, refl, ap, ◌∙◌, subst, arith}
 use Rattle.std.specs.List.{AllByRecursion as All}
 use Rattle.std.proofs.ByRecursion.{All-push, All-get_or}
 use Rattle.std.proofs.lemmas.Bool.{lt-ltb, le-ltb, le-leb, lt-leb, leb-true, ltb-true, cond-true, cond-false, and_from, and_left, and_right, and_parts, eq-eqb, ne_eqb}
@@ -12,7 +12,7 @@ use Rattle.resolution.specs.Clauses.{denial, Rising, Unsat}
 use Rattle.resolution.specs.Lists.{numbered_clause}
 use Rattle.resolution.specs.Resolvents.{resolvent, contains}
 use Rattle.resolution.specs.Outcomes.{admitted, fits, takes, resolves, numbered, added, ends}
-use Rattle.resolution.specs.States.{own, taken, ended, grown, written, noted, Standing, Implied, Follows, Goes_on, Steps, Carries}
+use Rattle.resolution.specs.States.{own, ended, grown, written, noted, Standing, Implied, Follows, Goes_on, Steps, Carries}
 use Rattle.resolution.proofs.Laws.{empty_unsat}
 use Rattle.resolution.proofs.Owned.{grows}
 

@@ -6,7 +6,6 @@ use Rattle.refusal.specs.declared.faults.DocketFault.TheVariants.{UnfitArea}
 use Rattle.refusal.specs.declared.faults.RefutationFault.{RefutationFault}
 use Rattle.refusal.specs.declared.faults.RefutationFault.TheVariants.{NoClause, NotRefuted}
 use Rattle.stack.specs.declared.spans.Span.{Span}
-use Rattle.stack.specs.declared.Stack.{Stack}
 use Rattle.stack.specs.Pushes.{placed}
 use Rattle.stack.specs.Runs.{runs}
 use Rattle.resolution.specs.declared.refutation.Refutation.{Refutation}

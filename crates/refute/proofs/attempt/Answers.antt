@@ -1,7 +1,7 @@
-use Rattle.std.proofs.Common.{◌≡◌, true, false, length, replicate, sym, refl, ap, ◌∙◌, arith}
+use Rattle.std.proofs.Common.{replicate, ap, ◌∙◌}
 use Rattle.std.proofs.lemmas.Result.{err_from_is_err_and, MatchResult-weaker}
 use Rattle.refute.specs.declared.steps.Step.TheVariants.{Take}
-use Rattle.refute.proofs.Runs.{Running, still, goes, stops, all_taken, begins, spent_is, zero_is, answer_is}
+use Rattle.refute.proofs.Runs.{still, goes, stops, all_taken, begins, spent_is, zero_is, answer_is}
 use Rattle.refute.proofs.attempt.Goals as goal
 
 pub loop-step-init : goal.loop-step-init

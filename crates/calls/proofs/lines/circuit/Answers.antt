@@ -1,4 +1,4 @@
-use Rattle.std.proofs.Common.{◌≡◌, sym, refl, ap, ◌∙◌, subst}
+use Rattle.std.proofs.Common.{sym, refl, subst}
 use Rattle.calls.specs.Lines.{Name}
 use Rattle.calls.proofs.lines.circuit.Goals as goal
 

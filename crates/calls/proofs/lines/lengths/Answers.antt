@@ -1,9 +1,9 @@
-use Rattle.std.proofs.Common.{◌≡◌, ℕ, ◌<◌, decimal, sym, ap, ◌∙◌, ⊎_elim, arith}
+use Rattle.std.proofs.Common.{◌≡◌, sym, ap, ◌∙◌, ⊎_elim, arith}
 use Rattle.std.proofs.lemmas.Fmt.{decimal_injective}
 use Rattle.calls.specs.declared.answer.Lengths.{Lengths}
 use Rattle.calls.specs.Cuts.{before, after}
 use Rattle.calls.specs.Lines.{Lendable}
-use Rattle.calls.proofs.Words.{Parts, lengths_cut, lengths_join}
+use Rattle.calls.proofs.Words.{lengths_cut, lengths_join}
 use Rattle.calls.proofs.lines.lengths.Goals as goal
 
 pub returns-in_err-number_word : goal.returns-in_err-number_word

@@ -1,4 +1,4 @@
-use Rattle.std.proofs.Common.{◌≡◌, length, sym, refl, ap, ◌∙◌, ⊎_elim, arith, eqb-true}
+use Rattle.std.proofs.Common.{length, sym, refl, ap, ◌∙◌, ⊎_elim, arith, eqb-true}
 use borrow.Author.Tests.{eqb-false}
 use Rattle.calls.proofs.Words.{whole_lacks, name_whole}
 use Rattle.calls.proofs.lines.name.Goals as goal

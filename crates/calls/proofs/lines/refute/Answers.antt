@@ -1,4 +1,4 @@
-use Rattle.std.proofs.Common.{◌≡◌, sym, refl, ap, ◌∙◌, subst}
+use Rattle.std.proofs.Common.{sym, refl, ap, ◌∙◌, subst}
 use Rattle.calls.specs.Cuts.{before, after}
 use Rattle.calls.specs.Lines.{Name}
 use Rattle.calls.proofs.Words.{joined, is_verb}

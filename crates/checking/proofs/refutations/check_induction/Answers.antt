@@ -1,7 +1,6 @@
-use Rattle.std.proofs.Common.{◌≡◌, ℕ, ◌<◌, length, get_or, Err, sym, refl, ap, ◌∙◌, arith}
+use Rattle.std.proofs.Common.{length, Err, refl, ap, ◌∙◌, arith}
 use Rattle.std.proofs.lemmas.Result.{err_from_is_err_and}
 use Rattle.opening.specs.Views.{held}
-use Rattle.unrolling.specs.Asked.{asked}
 use Rattle.checking.specs.Asked.{questions, room_above}
 use Rattle.checking.proofs.Loop.{going_none, kept_none, questions_end}
 use Rattle.checking.proofs.InductionLoop.{induction_count, induction_there, induction_stops, induction_counted, induction_goes}

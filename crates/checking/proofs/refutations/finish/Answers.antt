@@ -1,4 +1,4 @@
-use Rattle.std.proofs.Common.{◌≡◌, ℕ, ◌+◌, length, sym, ◌∙◌, arith}
+use Rattle.std.proofs.Common.{sym, arith}
 use Rattle.certificate.proofs.Codes.{read_none}
 use Rattle.opening.proofs.Loop.{was_read}
 use Rattle.checking.proofs.Endings.{no_end, other_record, byte_after, at_end}

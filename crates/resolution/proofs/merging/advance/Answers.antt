@@ -1,4 +1,4 @@
-use Rattle.std.proofs.Common.{◌≡◌, ℕ, ◌<◌, ◌≤◌, ◌⊎◌, inl, inr, ⊎_elim, arith}
+use Rattle.std.proofs.Common.{ℕ, ⊎_elim, arith}
 use Rattle.std.proofs.lemmas.Bool.{cases_eq, cases_order}
 use Rattle.resolution.specs.Merging.{Moves, LeftOf, RightOf, KeptOf, skip_left, skip_right, keep_left, keep_right, keep_both}
 use Rattle.resolution.proofs.merging.advance.Goals as goal

@@ -1,4 +1,4 @@
-use Rattle.std.proofs.Common.{◌≡◌, ◌+◌, ◌-◌, ◌++◌, length, take, drop, sym, refl, ap, ◌∙◌, arith}
+use Rattle.std.proofs.Common.{◌+◌, ◌-◌, ◌++◌, take, drop, sym, refl, ap, ◌∙◌, arith}
 use Rattle.stack.proofs.Places.{between_min, length_between}
 use Rattle.stack.proofs.Stack.push_again.Goals as goal
 

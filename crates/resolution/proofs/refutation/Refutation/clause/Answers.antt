@@ -1,4 +1,4 @@
-use Rattle.std.proofs.Common.{◌≡◌, ℕ, ◌+◌, ◌-◌, ◌<◌, ◌≤◌, min, length, get_or, take, sym, refl, ap, ◌∙◌, arith}
+use Rattle.std.proofs.Common.{◌≡◌, ◌+◌, get_or, take, sym, ap, ◌∙◌, arith}
 use Rattle.stack.specs.Runs.{run}
 use Rattle.stack.proofs.Places.{take_min}
 use Rattle.resolution.proofs.Owned.{length_own, own_at}

@@ -1,4 +1,4 @@
-use Rattle.std.proofs.Common.{◌≡◌, ℕ, ◌+◌, ◌-◌, ◌<◌, ◌≤◌, length, Ok, sym, refl, ap, ◌∙◌, arith}
+use Rattle.std.proofs.Common.{◌≡◌, ◌-◌, ◌<◌, length, Ok, refl, ap, ◌∙◌, arith}
 use Rattle.resolution.specs.Lists.{numbered_clause}
 use Rattle.resolution.specs.States.{own}
 use Rattle.resolution.proofs.Owned.{length_own}

@@ -1,4 +1,4 @@
-use Rattle.std.proofs.Common.{◌≡◌, ℕ, ◌+◌, ◌-◌, ◌<◌, ◌≤◌, false, List, [], ◌∷◌, length, Ok, Err, Result, sym, refl, ap, ◌∙◌, arith}
+use Rattle.std.proofs.Common.{◌≡◌, ℕ, ◌+◌, ◌-◌, false, List, [], ◌∷◌, length, Ok, Err, Result, sym, refl, ap, ◌∙◌, arith}
 use Rattle.std.proofs.ByRecursion.{All-get_or}
 use Rattle.std.proofs.lemmas.Bool.{cond-false}
 use Rattle.refusal.specs.declared.faults.RefutationFault.{RefutationFault}
@@ -9,7 +9,7 @@ use Rattle.resolution.specs.declared.refutation.Refutation.{Refutation}
 use Rattle.resolution.specs.Clauses.{Rising}
 use Rattle.resolution.specs.Lists.{numbered_clause}
 use Rattle.resolution.specs.Outcomes.{takes}
-use Rattle.resolution.specs.States.{own, taken, grown}
+use Rattle.resolution.specs.States.{own, taken}
 use Rattle.resolution.proofs.Laws.{implied_member}
 use Rattle.resolution.proofs.Owned.{length_own}
 use Rattle.resolution.proofs.Ways.{takes_missing, takes_place, takes_room, takes_done, place_free, refused, refused_as, same, same_as, made, carried}

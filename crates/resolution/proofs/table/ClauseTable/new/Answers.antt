@@ -1,4 +1,4 @@
-use Rattle.std.proofs.Common.{take, sym, refl, subst, arith}
+use Rattle.std.proofs.Common.{take, sym, refl, subst}
 use Rattle.std.specs.List.{AllByRecursion as All}
 use Rattle.std.proofs.ByRecursion.{All-push, All-get_or}
 use Rattle.std.proofs.lemmas.List.{take_more, take_all}

@@ -39,7 +39,7 @@ fn answers_clauses_and_literals(rt: HostRuntime) -> Result<(), Fail> {
     let Some(clause) = circuit.clause(9) else {
         return Err(Fail::new("no clause 9"));
     };
-    assert_eq!(rt; clause.as_slice(), &[4, 7, 12]);
+    assert_eq!(rt; clause.as_slice(), [4, 7, 12].as_slice());
     assert!(rt; circuit.clause(10).is_none());
     assert_eq!(rt; circuit.next_literal(0), Some(9));
     assert_eq!(rt; circuit.rule_literal(1), Some(6));

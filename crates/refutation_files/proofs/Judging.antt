@@ -1,6 +1,5 @@
 -- What the verdict on two files that were read comes to.
-use Rattle.std.specs.declared.alloc.AllocError.{AllocError}
-use Rattle.std.proofs.Common.{◌≡◌, ℕ, Bool, true, false, cond, List, length, Ok, Err, Result, OnOk, sym, refl, ap, ◌∙◌, subst}
+use Rattle.std.proofs.Common.{◌≡◌, ℕ, Bool, true, false, cond, List, length, Ok, Err, Result, OnOk, sym, ap, ◌∙◌, subst}
 use Rattle.refusal.specs.declared.faults.Refusal.{Refusal}
 use Rattle.resolution.specs.Clauses.{Unsat}
 use Rattle.refute.specs.declared.steps.Step.{Step}
@@ -8,7 +7,7 @@ use Rattle.refute.specs.Verdicts.{verdict}
 use Rattle.refutation_files.specs.declared.proof_file.Ending.{Ending}
 use Rattle.refutation_files.specs.declared.proof_file.Ending.TheVariants.{Whole, Cut, More}
 use Rattle.refutation_files.specs.declared.verdict.Verdict.{Verdict}
-use Rattle.refutation_files.specs.declared.verdict.Verdict.TheVariants.{Refuted, NotAClauseList, NotARefutation, Refused}
+use Rattle.refutation_files.specs.declared.verdict.Verdict.TheVariants.{NotARefutation, Refused}
 use Rattle.refutation_files.specs.ClauseFiles.{ClausesOf}
 use Rattle.refutation_files.specs.ProofFiles.{ProofOf}
 use Rattle.refutation_files.specs.Verdicts.{at_finish, judged, ComesTo}

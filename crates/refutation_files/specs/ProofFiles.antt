@@ -1,5 +1,5 @@
 -- Proof files: the records of steps, one after another, then the end of the refutation.
-use Rattle.std.specs.Prelude.{◌≡◌, ℕ, ◌≤◌, List, [], ◌∷◌, ◌++◌, map, Some, None, Option, ◌≢◌}
+use Rattle.std.specs.Prelude.{◌≡◌, ℕ, ◌≤◌, List, ◌∷◌, ◌++◌, map, Some, None, Option, ◌≢◌}
 use Rattle.certificate.specs.declared.record.Record.{Record}
 use Rattle.certificate.specs.declared.record.Record.TheVariants.{Take, Resolve, RefutationEnd}
 use Rattle.certificate.specs.Records.{encode, encodes}

@@ -3,7 +3,6 @@ use Rattle.std.specs.Prelude.{◌≡◌, ℕ, ◌+◌, Bool, true, false, cond, 
 use Rattle.std.specs.declared.alloc.AllocError.{AllocError}
 use Rattle.refusal.specs.declared.faults.Refusal.{Refusal}
 use Rattle.refusal.specs.declared.faults.Refusal.TheVariants.{Text, Table, Docket, Certificate, Refutation}
-use Rattle.refusal.specs.declared.faults.RefutationFault.{RefutationFault}
 use Rattle.refusal.specs.declared.faults.RefutationFault.TheVariants.{NoClause, NoPivot, Full, NotRefuted}
 use Rattle.resolution.specs.Clauses.{Unsat}
 use Rattle.refute.specs.declared.steps.Step.{Step}

@@ -7,7 +7,7 @@ use std::test::Fail;
 fn clauses_are_read(rt: HostRuntime) -> Result<(), Fail> {
     let bytes = [2, 8, 0, 0, 0, 2, 18, 0, 0, 0, 3, 2, 19, 0, 0, 0, 3, 3];
     let file = read_clauses(rt.alloc(), &bytes)?.ok_or("refused")?;
-    assert!(rt; file.literals.as_slice() == &[8, 18, 19]);
+    assert!(rt; file.literals.as_slice() == [8, 18, 19].as_slice());
     assert!(rt; file.spans.len() == 3);
     assert_eq!(rt; file.spans[0].length, 2);
     assert_eq!(rt; file.spans[1].start, 2);

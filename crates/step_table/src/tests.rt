@@ -30,7 +30,7 @@ fn answers_clauses_and_literals(rt: HostRuntime) -> Result<(), Fail> {
     let Some(clause) = table.clause(18) else {
         return Err(Fail::new("no clause 18"));
     };
-    assert_eq!(rt; clause.as_slice(), &[3, 5, 12]);
+    assert_eq!(rt; clause.as_slice(), [3, 5, 12].as_slice());
     assert!(rt; table.clause(21).is_none());
     assert_eq!(rt; table.start_bit(0), Some(false));
     assert_eq!(rt; table.next_literal(0), Some(14));

@@ -1,4 +1,4 @@
-use Rattle.std.proofs.Common.{◌≡◌, List, ℕ, length, sym, refl, ap, ◌∙◌}
+use Rattle.std.proofs.Common.{◌≡◌, length, refl, ◌∙◌}
 use Rattle.stack.specs.Runs.{runs}
 use Rattle.refutation_files.proofs.Judging.{comes}
 use Rattle.refutation_files.proofs.checking.refute_files.Goals as goal

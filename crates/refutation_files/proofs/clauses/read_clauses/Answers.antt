@@ -1,4 +1,4 @@
-use Rattle.std.proofs.Common.{◌≡◌, ◌-◌, ◌≤◌, Bool, true, false, length, vec_items, sym, ap, ◌∙◌, subst, arith, rules}
+use Rattle.std.proofs.Common.{vec_items, subst, rules}
 use Rattle.refutation_files.specs.ClauseFiles.{ClauseRead}
 use Rattle.refutation_files.proofs.ManyClauses.{filed_none, filed_more, filed_whole, none_there, clause_shorter, clause_longer}
 use Rattle.refutation_files.proofs.clauses.read_clauses.Goals as goal

@@ -1,4 +1,4 @@
-use Rattle.std.proofs.Common.{◌<◌, ◌≤◌, length, refl, rules}
+use Rattle.std.proofs.Common.{refl, rules}
 use Rattle.refutation_files.proofs.Ordering.{fits_none, fits_last}
 use Rattle.refutation_files.proofs.clauses.rises.Goals as goal
 

@@ -1,4 +1,4 @@
-use Rattle.std.proofs.Common.{◌≡◌, ℕ, List, subst}
+use Rattle.std.proofs.Common.{ℕ, List, subst}
 use Rattle.certificate.specs.Records.{Taken}
 use Rattle.refutation_files.proofs.ManySteps.{stepped_none, stepped_more, stepped_whole, left_less}
 use Rattle.refutation_files.proofs.steps.read_steps.Goals as goal

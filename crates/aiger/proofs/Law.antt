@@ -1,6 +1,6 @@
 -- A circuit keeps the law of machines: its gates in order give the one fit. (Proofs; the definitions are in Evaluation.)
 use Rattle.std.proofs.Common.{◌≡◌, ℕ, suc, ◌+◌, ◌-◌, ◌*◌, ◌<◌, ◌≤◌, Bool, true, false, cond, not, ◌&&◌, ◌||◌, ltb, List, [], ◌∷◌, ◌++◌, map, length, get_or, take, drop, sym, refl, ap, ◌∙◌, arith}
-use Rattle.std.specs.List.{AllByRecursion as All}
+use Rattle.std.specs.List.{AllByRecursion}
 use Rattle.std.proofs.lemmas.List.{take_more, take_all, take_at, take-take, length_push, length-append, length-take-le, length-drop, length-replicate, get_or-take, get_or-drop, get_or_push}
 use Rattle.std.proofs.ByRecursion.{All-get_or}
 use Rattle.std.proofs.lemmas.Bool.{cond_both, ltb-true, ltb-false, and_parts, true≢false}
@@ -159,10 +159,10 @@ two_short x y r =
     cond_both (ltb x y) (x ∷ y ∷ r) (cond (ltb y x) (y ∷ x ∷ r) (x ∷ r)) (λ (c : List ℕ). length c ≤ length r + 2) (λ _. omega arith)
     (λ _. cond_both (ltb y x) (y ∷ x ∷ r) (x ∷ r) (λ (c : List ℕ). length c ≤ length r + 2) (λ _. omega arith) (λ _. omega arith))
 
-two_low : (n x y : ℕ) (r : List ℕ) → x < n → y < n → All (λ l. l < n) r → All (λ l. l < n) (two x y r)
+two_low : (n x y : ℕ) (r : List ℕ) → x < n → y < n → AllByRecursion (λ l. l < n) r → AllByRecursion (λ l. l < n) (two x y r)
 two_low n x y r p q h =
-    cond_both (ltb x y) (x ∷ y ∷ r) (cond (ltb y x) (y ∷ x ∷ r) (x ∷ r)) (λ (c : List ℕ). All (λ l. l < n) c) (λ _. (p, (q, h)))
-    (λ _. cond_both (ltb y x) (y ∷ x ∷ r) (x ∷ r) (λ (c : List ℕ). All (λ l. l < n) c) (λ _. (q, (p, h))) (λ _. (p, h)))
+    cond_both (ltb x y) (x ∷ y ∷ r) (cond (ltb y x) (y ∷ x ∷ r) (x ∷ r)) (λ (c : List ℕ). AllByRecursion (λ l. l < n) c) (λ _. (p, (q, h)))
+    (λ _. cond_both (ltb y x) (y ∷ x ∷ r) (x ∷ r) (λ (c : List ℕ). AllByRecursion (λ l. l < n) c) (λ _. (q, (p, h))) (λ _. (p, h)))
 
 two_rises : (x y z : ℕ) → x < z → y < z → Rising (two x y (z ∷ []))
 two_rises x y z p q =
@@ -174,9 +174,9 @@ two_rises x y z p q =
 
 -- what the law asks of each clause
 abbrev Fine : ℕ → List ℕ → Type 0
-Fine n c = (length c ≤ 16) × Rising c × All (λ l. l < 2 * n) c
+Fine n c = (length c ≤ 16) × Rising c × AllByRecursion (λ l. l < 2 * n) c
 
-gates_fine : (r : List ℕ) (v n k : ℕ) → Ordered v r → length r ≡ 2 * k → v + k ≤ n → All (Fine n) (gate_clauses v r)
+gates_fine : (r : List ℕ) (v n k : ℕ) → Ordered v r → length r ≡ 2 * k → v + k ≤ n → AllByRecursion (Fine n) (gate_clauses v r)
 gates_fine [] v n k o e h = tt
 gates_fine (a ∷ []) v n k o e h = tt
 gates_fine (a ∷ b ∷ r) v n k o e h =
@@ -243,7 +243,7 @@ module _ (h : Header) (area : List ℕ) (good : Good h area) (whole : length are
       both : {p q : Bool} → p ≡ true → q ≡ true → ((p || false) && q) ≡ true
       both e f = cc
 
-  clauses_fine : All (Fine (h.maximum + 1)) (meant h area).clauses
+  clauses_fine : AllByRecursion (Fine (h.maximum + 1)) (meant h area).clauses
   clauses_fine = (
     (omega arith, (tt, tt), (omega arith, tt)),
     gates_fine (operands h area) (1 + h.inputs + h.latches) (h.maximum + 1) h.gates gates_ordered operands_length (omega (arith, good.0.0)),

@@ -1,7 +1,7 @@
 -- Records that lead to the end are the certificate of a run that breaks the rule, and the other way round.
 use Rattle.std.proofs.Common.{◌≡◌, ℕ, zero, suc, ◌+◌, ◌-◌, ◌≤◌, Bool, true, List, [], ◌∷◌, ◌++◌, length, get_or, sym, refl, ap, ◌∙◌, subst, append_assoc, arith}
 use Rattle.std.proofs.lemmas.List.{length-append, append-nil}
-use Rattle.std.specs.List.{AllByRecursion as All}
+use Rattle.std.specs.List.{AllByRecursion}
 use Rattle.machine.specs.Meaning.{Meaning}
 use Rattle.machine.specs.Rows.{bit, byte}
 use Rattle.machine.specs.Runs.{Run, Breaks, state_at}
@@ -56,7 +56,7 @@ record Tail (m : Meaning) (o left : ℕ) (bits s : List Bool) (rs : List Record)
   rest : List (List Bool)
   wrote : rs ≡ row_records more (rows_records rest (End ∷ []))
   wide : length bits + length more ≡ m.inputs
-  after_rows : All (λ x. length x ≡ m.inputs) rest
+  after_rows : AllByRecursion (λ x. length x ≡ m.inputs) rest
   count : left ≡ suc (length rest)
   last : broken_last m o s (bits ++ more) rest ≡ true
 
@@ -160,7 +160,7 @@ module _ (m : Meaning) (o : ℕ) where
             (subst (λ (x : List Bool). Leads m o (in_row left x s) (RowEnd ∷ rs) closed) (sym same) p),
       )
 
-  rows_lead : (rest : List (List Bool)) (x s : List Bool) → length x ≡ m.inputs → All (λ x. length x ≡ m.inputs) rest → broken_last m o s x rest ≡ true →
+  rows_lead : (rest : List (List Bool)) (x s : List Bool) → length x ≡ m.inputs → AllByRecursion (λ x. length x ≡ m.inputs) rest → broken_last m o s x rest ≡ true →
       Leads m o (in_row (suc (length rest)) [] s) (row_records x (rows_records rest (End ∷ []))) closed
   rows_lead [] x s h a e = row_leads x [] s 1 (End ∷ []) (omega arith) (closing, breaks h (omega arith) e, (closed, ends, refl))
   rows_lead (y ∷ ys) x s h a e =

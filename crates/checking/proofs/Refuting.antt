@@ -1,6 +1,6 @@
 -- A list that is refuted has no setting that satisfies it.
 use Rattle.std.proofs.Common.{ℕ, List, [], ◌∷◌, ◌++◌, get_or, subst}
-use Rattle.std.specs.List.{AllByRecursion as All}
+use Rattle.std.specs.List.{AllByRecursion}
 use Rattle.std.proofs.ByRecursion.{All-push, All-get_or}
 use Rattle.resolution.specs.Clauses.{Unsat}
 use Rattle.resolution.specs.States.{Implied, Follows}
@@ -27,7 +27,7 @@ pub refutes_unsat : (list : List (List ℕ)) (room : Room) (steps : List Step) �
 refutes_unsat list room steps r =
     empty_unsat list (last_follows list r.before [] (all_follow list room [] steps (r.before ++ [] ∷ []) r.leads tt))
 
-pub each_unsat : (room : Room) (qs : List (List (List ℕ))) (refutations : List (List Step)) → RefuteEach room qs refutations → All Unsat qs
+pub each_unsat : (room : Room) (qs : List (List (List ℕ))) (refutations : List (List Step)) → RefuteEach room qs refutations → AllByRecursion Unsat qs
 each_unsat room [] [] r = tt
 each_unsat room [] (steps ∷ more) r = absurd r
 each_unsat room (q ∷ qs) [] r = absurd r

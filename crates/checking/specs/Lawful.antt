@@ -1,6 +1,6 @@
 -- Lawful certificates in the words of the subject: what they are as bytes, and what they show.
 use Rattle.std.specs.Prelude.{◌≡◌, ℕ, ◌<◌, ◌≤◌, List, [], ◌∷◌, ◌++◌, length, Ok, Err, Result}
-use Rattle.std.specs.List.{flat_map, AllByRecursion as All}
+use Rattle.std.specs.List.{flat_map, AllByRecursion}
 use Rattle.refusal.specs.declared.faults.Refusal.{Refusal}
 use Rattle.machine.specs.Meaning.{Meaning}
 use Rattle.machine.specs.Runs.{Run, Breaks, Kept}
@@ -56,7 +56,7 @@ pub record LawfulCertificate (m : Meaning) (rule : ℕ) (bytes : List ℕ) (area
   pub row : m.variables ≤ areas.row
   pub literals : areas.literals ≤ 1048576
   pub spans : areas.spans ≤ 65536
-  pub of_bytes : All (λ b. b < 256) bytes
+  pub of_bytes : AllByRecursion (λ b. b < 256) bytes
   pub certificate : Certificate m rule bytes areas claim count
 
 -- what a certificate tells of its rule

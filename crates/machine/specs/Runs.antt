@@ -1,12 +1,12 @@
 -- Runs of a machine, and what it is for a run to break a rule.
 use Rattle.std.specs.Prelude.{◌≡◌, ℕ, zero, suc, ◌-◌, ◌≤◌, Bool, true, List, [], length, slice_index_or}
-use Rattle.std.specs.List.{AllByRecursion as All}
+use Rattle.std.specs.List.{AllByRecursion}
 use Rattle.machine.specs.Meaning.{Meaning}
 
 -- a run is at least one row, and each row sets every input
 pub record Run (m : Meaning) (rows : List (List Bool)) : Type 0 where
   pub some : 1 ≤ length rows
-  pub wide : All (λ x. length x ≡ m.inputs) rows
+  pub wide : AllByRecursion (λ x. length x ≡ m.inputs) rows
 
 -- the state of row t: the first state is the start, each later one is the step of the row before
 abbrev pub state_at : Meaning → List (List Bool) → ℕ → List Bool

@@ -1,6 +1,6 @@
 -- The encoding of an opening is read as that opening.
 use Rattle.std.proofs.Common.{◌≡◌, ℕ, zero, suc, ◌+◌, ◌<◌, ◌≤◌, true, ltb, List, [], ◌∷◌, ◌++◌, map, length, get_or, Ok, Err, Result, sym, refl, ap, ◌∙◌, subst, append_assoc, append-nil, arith}
-use Rattle.std.specs.List.{flat_map, AllByRecursion as All}
+use Rattle.std.specs.List.{flat_map, AllByRecursion}
 use Rattle.std.proofs.lemmas.List.{length-append}
 use Rattle.std.proofs.lemmas.Bool.{cond-true, cond-false, lt-ltb, le-ltb}
 use Rattle.refusal.specs.declared.faults.CertificateFault.{CertificateFault}
@@ -30,7 +30,7 @@ Leads m room v [] w = v ≡ w
 Leads m room v (r ∷ rs) w = (u : View) × (step m room v r ≡ Ok u) × Leads m room u rs w
 
 module _ (m : Meaning) (room : Room) (w : View) (n : ℕ) where
-  literals_lead : (Fs : List (List (List ℕ))) (F : List (List ℕ)) (more c : List ℕ) (rs : List Record) → Rising (c ++ more) → All (OfState m) more →
+  literals_lead : (Fs : List (List (List ℕ))) (F : List (List ℕ)) (more c : List ℕ) (rs : List Record) → Rising (c ++ more) → AllByRecursion (OfState m) more →
       literal_count Fs F c + length more ≤ room.literals → Leads m room (framing n Fs F (c ++ more)) rs w → Leads m room (framing n Fs F c) (map Literal more ++ rs) w
   unfolding literal_added
   literals_lead Fs F [] c rs r s h p = subst (λ (x : List ℕ). Leads m room (framing n Fs F x) rs w) (append-nil c) p
@@ -42,7 +42,7 @@ module _ (m : Meaning) (room : Room) (w : View) (n : ℕ) where
             (subst (λ (x : List ℕ). Leads m room (framing n Fs F x) rs w) (sym same) p),
       )
 
-  clause_leads : (Fs : List (List (List ℕ))) (F : List (List ℕ)) (c : List ℕ) (rs : List Record) → Rising c → All (OfState m) c → literal_count Fs F c ≤ room.literals →
+  clause_leads : (Fs : List (List (List ℕ))) (F : List (List ℕ)) (c : List ℕ) (rs : List Record) → Rising c → AllByRecursion (OfState m) c → literal_count Fs F c ≤ room.literals →
       clause_count Fs F < room.clauses → stands m Fs c ≡ true → Leads m room (framing n Fs (F ++ c ∷ []) []) rs w → Leads m room (framing n Fs F []) (clause_records c ++ rs) w
   unfolding clause_ended
   clause_leads Fs F c rs r s h k e p =
@@ -53,8 +53,8 @@ module _ (m : Meaning) (room : Room) (w : View) (n : ℕ) where
         p,
       ))
 
-  clauses_lead : (Fs : List (List (List ℕ))) (G F : List (List ℕ)) (rs : List Record) → All Rising G → StateClauses m G → literal_count Fs (F ++ G) [] ≤ room.literals →
-      clause_count Fs (F ++ G) ≤ room.clauses → All (λ c. stands m Fs c ≡ true) G → Leads m room (framing n Fs (F ++ G) []) rs w →
+  clauses_lead : (Fs : List (List (List ℕ))) (G F : List (List ℕ)) (rs : List Record) → AllByRecursion Rising G → StateClauses m G → literal_count Fs (F ++ G) [] ≤ room.literals →
+      clause_count Fs (F ++ G) ≤ room.clauses → AllByRecursion (λ c. stands m Fs c ≡ true) G → Leads m room (framing n Fs (F ++ G) []) rs w →
       Leads m room (framing n Fs F []) (flat_map clause_records G ++ rs) w
   clauses_lead Fs [] F rs r s h k e p = subst (λ (x : List (List ℕ)). Leads m room (framing n Fs x []) rs w) (append-nil F) p
   clauses_lead Fs (c ∷ G) F rs r s h k e p =
@@ -67,18 +67,18 @@ module _ (m : Meaning) (room : Room) (w : View) (n : ℕ) where
       (subst (λ (x : List (List ℕ)). Leads m room (framing n Fs x []) rs w) (sym same) p)))
 
 -- the clauses of the first frame hold in the start
-all_stand : (m : Meaning) (Fs : List (List (List ℕ))) (G : List (List ℕ)) (Gs : List (List (List ℕ))) → In m (get_or (Fs ++ G ∷ Gs) 0 []) m.start → All (λ c. stands m Fs c ≡ true) G
+all_stand : (m : Meaning) (Fs : List (List (List ℕ))) (G : List (List ℕ)) (Gs : List (List (List ℕ))) → In m (get_or (Fs ++ G ∷ Gs) 0 []) m.start → AllByRecursion (λ c. stands m Fs c ≡ true) G
 unfolding stands
 all_stand m [] G Gs s = all_from_models (state_setting m m.start) G s
 all_stand m (F ∷ Fs) G Gs s = each G
   where
-    each : (G : List (List ℕ)) → All (λ c. stands m (F ∷ Fs) c ≡ true) G
+    each : (G : List (List ℕ)) → AllByRecursion (λ c. stands m (F ∷ Fs) c ≡ true) G
     each [] = tt
     each (c ∷ G) = (refl, each G)
 
 module _ (m : Meaning) (room : Room) (n : ℕ) where
   -- the frames of a trace from one on, the last of which is frame n
-  frames_lead : (G : List (List ℕ)) (Gs Fs : List (List (List ℕ))) → All (All Rising) (G ∷ Gs) → All (StateClauses m) (G ∷ Gs) → length Fs + length (G ∷ Gs) ≡ n + 1 →
+  frames_lead : (G : List (List ℕ)) (Gs Fs : List (List (List ℕ))) → AllByRecursion (AllByRecursion Rising) (G ∷ Gs) → AllByRecursion (StateClauses m) (G ∷ Gs) → length Fs + length (G ∷ Gs) ≡ n + 1 →
       In m (get_or (Fs ++ G ∷ Gs) 0 []) m.start → length (flat (clauses_in (Fs ++ G ∷ Gs))) ≤ room.literals → length (clauses_in (Fs ++ G ∷ Gs)) ≤ room.clauses →
       Leads m room (framing n Fs [] []) (flat_map frame_records (G ∷ Gs)) (opened Trace n (Fs ++ G ∷ Gs))
   unfolding frame_ended

@@ -2,17 +2,17 @@
 use Rattle.std.proofs.Common.{◌≡◌, ℕ, suc, ◌+◌, ◌-◌, ◌/◌, ◌<◌, ◌≤◌, true, ◌||◌, eqb, ltb, leb, List, [], ◌∷◌, ◌++◌, length, get_or, refl, subst, ⊎_elim, arith}
 use Rattle.std.proofs.ByRecursion.{All-push}
 use Rattle.std.proofs.lemmas.Bool.{and_parts, and_from, or_cases, or_right, leb-true, ltb-true, eqb-true, le-leb, lt-ltb}
-use Rattle.std.specs.List.{AllByRecursion as All}
+use Rattle.std.specs.List.{AllByRecursion}
 use Rattle.resolution.specs.Clauses.{Rising}
 use Rattle.machine.specs.Meaning.{Meaning}
 use Rattle.question_theory.specs.Traces.{OfState}
 use Rattle.opening.specs.Steps.{above, is_next_literal}
 
-rising_push : (c : List ℕ) (l : ℕ) → Rising c → All (λ y. y < l) c → Rising (c ++ l ∷ [])
+rising_push : (c : List ℕ) (l : ℕ) → Rising c → AllByRecursion (λ y. y < l) c → Rising (c ++ l ∷ [])
 rising_push [] l r a = (tt, tt)
 rising_push (x ∷ xs) l r a = (All-push (λ y. x < y) xs l r.0 a.0, rising_push xs l r.1 a.1)
 
-last_below : (c : List ℕ) (l : ℕ) → Rising c → get_or c (length c - 1) 0 < l → All (λ y. y < l) c
+last_below : (c : List ℕ) (l : ℕ) → Rising c → get_or c (length c - 1) 0 < l → AllByRecursion (λ y. y < l) c
 last_below [] l r h = tt
 last_below (x ∷ []) l r h = (h, tt)
 last_below (x ∷ y ∷ ys) l r h =
@@ -20,7 +20,7 @@ last_below (x ∷ y ∷ ys) l r h =
     let t = last_below (y ∷ ys) l r.1 (subst (λ (k : ℕ). get_or (x ∷ y ∷ ys) k 0 < l) e h) in
     (omega (arith, r.0.0, t.0), t)
 
-all_middle : (P : ℕ → Type 0) (c d : List ℕ) (l : ℕ) → All P (c ++ l ∷ d) → P l
+all_middle : (P : ℕ → Type 0) (c d : List ℕ) (l : ℕ) → AllByRecursion P (c ++ l ∷ d) → P l
 all_middle P [] d l a = a.0
 all_middle P (x ∷ xs) d l a = all_middle P xs d l a.1
 

@@ -1,6 +1,6 @@
 -- What the records so far are: an invariant of the reading.
 use Rattle.std.proofs.Common.{◌≡◌, ℕ, ◌<◌, ◌≤◌, Bool, true, false, cond, ◌&&◌, eqb, ltb, leb, List, [], ◌∷◌, ◌++◌, map, length, get_or, Ok, Err, Result, sym, refl, ap, ◌∙◌, subst, append_assoc, append-nil, arith}
-use Rattle.std.specs.List.{flat_map, AllByRecursion as All}
+use Rattle.std.specs.List.{flat_map, AllByRecursion}
 use Rattle.std.proofs.ByRecursion.{All-push}
 use Rattle.std.proofs.lemmas.List.{length-append, map_push}
 use Rattle.std.proofs.lemmas.Bool.{ltb-true, ltb-false, eqb-true, and_from}
@@ -26,11 +26,11 @@ pub record Partly (m : Meaning) (room : Room) (pre : List Record) (n : ℕ) (Fs 
   pub most : n ≤ 64
   pub few : length Fs ≤ n
   pub rising_clause : Rising c
-  pub rising_frame : All Rising F
-  pub rising : All (All Rising) Fs
-  pub state_clause : All (OfState m) c
+  pub rising_frame : AllByRecursion Rising F
+  pub rising : AllByRecursion (AllByRecursion Rising) Fs
+  pub state_clause : AllByRecursion (OfState m) c
   pub state_frame : StateClauses m F
-  pub of_state : All (StateClauses m) Fs
+  pub of_state : AllByRecursion (StateClauses m) Fs
   pub starts : In m (get_or (Fs ++ F ∷ []) 0 []) m.start
   pub literals_fit : literal_count Fs F c ≤ room.literals
   pub clauses_fit : clause_count Fs F ≤ room.clauses
@@ -118,7 +118,7 @@ module _ (m : Meaning) (room : Room) (pre : List Record) (n : ℕ) where
       rising_frame = All-push Rising F c f.rising_frame f.rising_clause;
       rising = f.rising;
       state_clause = tt;
-      state_frame = All-push (All (OfState m)) F c f.state_frame f.state_clause;
+      state_frame = All-push (AllByRecursion (OfState m)) F c f.state_frame f.state_clause;
       of_state = f.of_state;
       starts = starts_clause e f.starts;
       literals_fit = omega (arith, literals_clause Fs F c, f.literals_fit);
@@ -157,7 +157,7 @@ module _ (m : Meaning) (room : Room) (pre : List Record) (n : ℕ) where
       few = omega (arith, length-append Fs (F ∷ []));
       rising_clause = tt;
       rising_frame = tt;
-      rising = All-push (All Rising) Fs F f.rising f.rising_frame;
+      rising = All-push (AllByRecursion Rising) Fs F f.rising f.rising_frame;
       state_clause = tt;
       state_frame = tt;
       of_state = All-push (StateClauses m) Fs F f.of_state f.state_frame;
@@ -172,7 +172,7 @@ module _ (m : Meaning) (room : Room) (pre : List Record) (n : ℕ) where
         some = f.some;
         few = f.most;
         framed = omega (arith, length-append Fs (F ∷ []), f.few);
-        rising = All-push (All Rising) Fs F f.rising f.rising_frame;
+        rising = All-push (AllByRecursion Rising) Fs F f.rising f.rising_frame;
         of_state = All-push (StateClauses m) Fs F f.of_state f.state_frame;
         starts = f.starts;
         literals_fit = omega (arith, f.literals_fit, ap (λ x. length (flat_map (λ (d : List ℕ). d) x)) (frame_push Fs F));

@@ -1,6 +1,6 @@
 -- Openings in the words of the subject: what they are as bytes, and what their frames are.
 use Rattle.std.specs.Prelude.{◌≡◌, ℕ, ◌+◌, ◌<◌, ◌≤◌, List, [], ◌∷◌, ◌++◌, map, length, IfOk, Ok, Result, slice_index_or}
-use Rattle.std.specs.List.{flat_map, AllByRecursion as All}
+use Rattle.std.specs.List.{flat_map, AllByRecursion}
 use Rattle.refusal.specs.declared.faults.CertificateRefusal.{CertificateRefusal}
 use Rattle.resolution.specs.Clauses.{Rising}
 use Rattle.machine.specs.Meaning.{Meaning}
@@ -54,8 +54,8 @@ pub record Proper (m : Meaning) (room : Room) (claim : Claim) (size : ℕ) (fram
   pub few : size ≤ most claim
   pub framed : length frames ≡ frames_with claim size
   -- every clause rises, and is of state literals
-  pub rising : All (All Rising) frames
-  pub of_state : All (StateClauses m) frames
+  pub rising : AllByRecursion (AllByRecursion Rising) frames
+  pub of_state : AllByRecursion (StateClauses m) frames
   -- the start is in the first frame
   pub starts : In m (slice_index_or frames 0 []) m.start
   pub literals_fit : length (flat (clauses_in frames)) ≤ room.literals
@@ -71,7 +71,7 @@ pub record Opens (m : Meaning) (room : Room) (bytes rest : List ℕ) (k : Conten
 pub record Framed (m : Meaning) (o : Opening) (ls : List ℕ) (ps : List Span) : Type 0 where
   pub settled : Settled o.frames ls ps
   pub count : o.frames.count ≡ frames_with o.claim o.size
-  pub rising : (i : ℕ) → i < o.frames.count → All Rising (frame o.frames ls ps i)
+  pub rising : (i : ℕ) → i < o.frames.count → AllByRecursion Rising (frame o.frames ls ps i)
   pub of_state : (i : ℕ) → i < o.frames.count → StateClauses m (frame o.frames ls ps i)
   pub starts : 0 < o.frames.count → In m (frame o.frames ls ps 0) m.start
 

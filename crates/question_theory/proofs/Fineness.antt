@@ -1,6 +1,6 @@
 -- The clauses of every question rise, and their literals are low.
 use Rattle.std.proofs.Common.{◌≡◌, ℕ, zero, suc, ◌+◌, ◌*◌, ◌<◌, ◌≤◌, Bool, List, [], ◌∷◌, ◌++◌, map, length, get_or, subst, suc-mul, arith}
-use Rattle.std.specs.List.{AllByRecursion as All}
+use Rattle.std.specs.List.{AllByRecursion}
 use Rattle.std.proofs.ByRecursion.{All-append, All-weaker, All-get_or}
 use Rattle.std.proofs.lemmas.Bool.{cond_both}
 use Rattle.std.proofs.lemmas.Nat.{mul-le}
@@ -15,12 +15,12 @@ use Rattle.question_theory.proofs.FineClauses.{fine_from, fine_more, fine_join, 
 use Rattle.question_theory.proofs.FramesBefore.{before_more}
 use Rattle.question_theory.proofs.UnrollOrder.{unroll_in_order}
 
-fine_state : (m : Meaning) → Lawful m → (cs : List (List ℕ)) → StateClauses m cs → All Rising cs → Fine (2 * m.variables) cs
+fine_state : (m : Meaning) → Lawful m → (cs : List (List ℕ)) → StateClauses m cs → AllByRecursion Rising cs → Fine (2 * m.variables) cs
 fine_state m law cs o r =
     let room = law.room in
-    fine_from (2 * m.variables) cs r (All-weaker (All (OfState m)) (All (λ l. l < 2 * m.variables)) (λ c. All-weaker (OfState m) (λ l. l < 2 * m.variables) (λ l p. omega arith) c) cs o)
+    fine_from (2 * m.variables) cs r (All-weaker (AllByRecursion (OfState m)) (AllByRecursion (λ l. l < 2 * m.variables)) (λ c. All-weaker (OfState m) (λ l. l < 2 * m.variables) (λ l p. omega arith) c) cs o)
 
-fine_denied : (m : Meaning) → Lawful m → (c : List ℕ) → All (OfState m) c → Fine (2 * (2 * m.variables)) (map (λ (l : ℕ). denial (moved m 1 l) ∷ []) c)
+fine_denied : (m : Meaning) → Lawful m → (c : List ℕ) → AllByRecursion (OfState m) c → Fine (2 * (2 * m.variables)) (map (λ (l : ℕ). denial (moved m 1 l) ∷ []) c)
 fine_denied m law [] o = tt
 fine_denied m law (l ∷ c) o =
     let room = law.room in
@@ -28,7 +28,7 @@ fine_denied m law (l ∷ c) o =
     let d = denial_near (moved m 1 l) in
     (((tt, tt), (omega arith, tt)), fine_denied m law c o.1)
 
-fine_step : (m : Meaning) → Lawful m → (F : List (List ℕ)) (c : List ℕ) → StateClauses m F → All Rising F → All (OfState m) c → Fine (2 * (2 * m.variables)) (step_question m F c)
+fine_step : (m : Meaning) → Lawful m → (F : List (List ℕ)) (c : List ℕ) → StateClauses m F → AllByRecursion Rising F → AllByRecursion (OfState m) c → Fine (2 * (2 * m.variables)) (step_question m F c)
 unfolding step_question
 fine_step m law F c o r oc =
     let n : ℕ = 2 * (2 * m.variables) in
@@ -36,7 +36,7 @@ fine_step m law F c o r oc =
     (fine_join n (unroll m 1) F (unroll_in_order m law 1).fine (fine_more (2 * m.variables) n F (omega arith) (fine_state m law F o r)))
     (fine_denied m law c oc)
 
-fine_safe : (m : Meaning) → Lawful m → (o : ℕ) → o < m.rules → (F : List (List ℕ)) → StateClauses m F → All Rising F → Fine (2 * m.variables) (safe_question m o F)
+fine_safe : (m : Meaning) → Lawful m → (o : ℕ) → o < m.rules → (F : List (List ℕ)) → StateClauses m F → AllByRecursion Rising F → Fine (2 * m.variables) (safe_question m o F)
 unfolding safe_question
 fine_safe m law o lo F sc r =
     let e : 2 * (1 * m.variables) ≤ 2 * m.variables = omega arith in
@@ -45,7 +45,7 @@ fine_safe m law o lo F sc r =
     (fine_unit (2 * m.variables) (get_or m.rule o 0) (law.rule_low o lo))
 
 -- selectors a, a + 1, ..
-selectors_from : (P : ℕ → Type 0) (a : ℕ) (cs : List (List ℕ)) → ((q : ℕ) → q < length cs → P (2 * (a + q))) → All P (selectors a cs)
+selectors_from : (P : ℕ → Type 0) (a : ℕ) (cs : List (List ℕ)) → ((q : ℕ) → q < length cs → P (2 * (a + q))) → AllByRecursion P (selectors a cs)
 selectors_from P a [] h = tt
 selectors_from P a (c ∷ cs) h =
     let e : a + 0 ≡ a = omega arith in
@@ -62,28 +62,28 @@ fine_choices m F n (suc j) h =
     fine_join (2 * (m.variables + length (before F n))) (choices m F j) (selectors (m.variables + length (before F j)) (F j) ∷ []) (fine_choices m F n j (omega arith))
     ((selectors_rise (m.variables + length (before F j)) (F j), selectors_from (λ l. l < 2 * (m.variables + length (before F n))) (m.variables + length (before F j)) (F j) (λ q l. omega arith)), tt)
 
-fine_denial : (n a : ℕ) (c : List ℕ) → 2 * a + 1 < n → All (λ l. l < 2 * a) c → Fine n (map (λ (x : ℕ). denial x ∷ (2 * a + 1) ∷ []) c)
+fine_denial : (n a : ℕ) (c : List ℕ) → 2 * a + 1 < n → AllByRecursion (λ l. l < 2 * a) c → Fine n (map (λ (x : ℕ). denial x ∷ (2 * a + 1) ∷ []) c)
 fine_denial n a [] h l = tt
 fine_denial n a (x ∷ c) h l =
     let d = denial_near x in
     let k : x < 2 * a = l.0 in
     ((((omega arith, tt), (tt, tt)), (omega arith, (omega arith, tt))), fine_denial n a c h l.1)
 
-fine_denials : (v n a : ℕ) (cs : List (List ℕ)) → v ≤ a → 2 * (a + length cs) ≤ n → All (All (λ l. l < 2 * v)) cs → Fine n (denials a cs)
+fine_denials : (v n a : ℕ) (cs : List (List ℕ)) → v ≤ a → 2 * (a + length cs) ≤ n → AllByRecursion (AllByRecursion (λ l. l < 2 * v)) cs → Fine n (denials a cs)
 fine_denials v n a [] h k l = tt
 fine_denials v n a (c ∷ cs) h k l =
     fine_join n (map (λ (x : ℕ). denial x ∷ (2 * a + 1) ∷ []) c) (denials (a + 1) cs)
     (fine_denial n a c (omega arith) (All-weaker (λ l. l < 2 * v) (λ l. l < 2 * a) (λ l p. omega arith) c l.0))
     (fine_denials v n (a + 1) cs (omega arith) (omega arith) l.1)
 
-before_low : (m : Meaning) → Lawful m → (F : ℕ → List (List ℕ)) (n : ℕ) → ((i : ℕ) → i < n → StateClauses m (F i)) → All (All (λ l. l < 2 * m.variables)) (before F n)
+before_low : (m : Meaning) → Lawful m → (F : ℕ → List (List ℕ)) (n : ℕ) → ((i : ℕ) → i < n → StateClauses m (F i)) → AllByRecursion (AllByRecursion (λ l. l < 2 * m.variables)) (before F n)
 before_low m law F zero h = tt
 before_low m law F (suc n) h =
     let room = law.room in
-    All-append (All (λ l. l < 2 * m.variables)) (before F n) (F n) (before_low m law F n (λ i l. h i (omega arith)))
-    (All-weaker (All (OfState m)) (All (λ l. l < 2 * m.variables)) (λ c. All-weaker (OfState m) (λ l. l < 2 * m.variables) (λ l p. omega arith) c) (F n) (h n (omega arith)))
+    All-append (AllByRecursion (λ l. l < 2 * m.variables)) (before F n) (F n) (before_low m law F n (λ i l. h i (omega arith)))
+    (All-weaker (AllByRecursion (OfState m)) (AllByRecursion (λ l. l < 2 * m.variables)) (λ c. All-weaker (OfState m) (λ l. l < 2 * m.variables) (λ l p. omega arith) c) (F n) (h n (omega arith)))
 
-fine_closing : (m : Meaning) → Lawful m → (F : ℕ → List (List ℕ)) (n : ℕ) → ((i : ℕ) → i ≤ n → StateClauses m (F i)) → All Rising (F n) → Fine (2 * (m.variables + length (before F n))) (closing_question m F n)
+fine_closing : (m : Meaning) → Lawful m → (F : ℕ → List (List ℕ)) (n : ℕ) → ((i : ℕ) → i ≤ n → StateClauses m (F i)) → AllByRecursion Rising (F n) → Fine (2 * (m.variables + length (before F n))) (closing_question m F n)
 unfolding closing_question
 fine_closing m law F n o r =
     let k : ℕ = 2 * (m.variables + length (before F n)) in
@@ -93,7 +93,7 @@ fine_closing m law F n o r =
 
 pub trace_fine : TraceFine
 trace_fine m law o lo F n sc r = record {
-  step = λ i c l c<. fine_step m law (F i) (get_or (F (suc i)) c []) (sc i (omega arith)) (r i (omega arith)) (All-get_or (All (OfState m)) (F (suc i)) c [] c< (sc (suc i) (omega arith)));
+  step = λ i c l c<. fine_step m law (F i) (get_or (F (suc i)) c []) (sc i (omega arith)) (r i (omega arith)) (All-get_or (AllByRecursion (OfState m)) (F (suc i)) c [] c< (sc (suc i) (omega arith)));
   safe = λ i l. fine_safe m law o lo (F i) (sc i l) (r i l);
   closing = fine_closing m law F n sc (r n (omega arith));
 }

@@ -1,6 +1,6 @@
 -- A setting that satisfies an unrolling is linked rows, and the other way round.
 use Rattle.std.proofs.Common.{◌≡◌, ℕ, zero, suc, ◌+◌, ◌*◌, ◌/◌, ◌%◌, ◌<◌, ◌≤◌, Bool, true, false, not, ◌&&◌, ◌||◌, ◌⊎◌, List, [], ◌∷◌, map, length, get_or, sym, refl, ap, ◌∙◌, subst, ap₂, inl, inr, ⊎_elim, arith}
-use Rattle.std.specs.List.{range_with_len, AllByRecursion as All}
+use Rattle.std.specs.List.{range_with_len, AllByRecursion}
 use Rattle.std.proofs.lemmas.List.{ext_get_or, length-map, get_or-take, get_or-map, get_or-append-add}
 use Rattle.std.proofs.lemmas.List.FromFn.{length-map-range_with_len, get_or-map-range_with_len, take-map-range_with_len}
 use Rattle.std.proofs.ByRecursion.{All-from_get_or}
@@ -12,8 +12,8 @@ use Rattle.machine.specs.Meaning.{Meaning, Lawful, Fits, lit, sat}
 use Rattle.question_theory.specs.Unrolling.{moved, clauses_at, clauses_upto, literal_of_state, tie, ties, unroll, linked_state, Inputs, row_at, LinkedRows, Unrolls}
 use Rattle.question_theory.proofs.Satisfied.{parts, joins, models_moved, map_split}
 
-pub lows : (m : Meaning) → Lawful m → All (All (λ l. l < 2 * m.variables)) m.clauses
-lows m law = All-from_get_or (All (λ l. l < 2 * m.variables)) m.clauses [] (λ c h. All-from_get_or (λ l. l < 2 * m.variables) (get_or m.clauses c []) 0 (λ k j. law.clause_low c k h j))
+pub lows : (m : Meaning) → Lawful m → AllByRecursion (AllByRecursion (λ l. l < 2 * m.variables)) m.clauses
+lows m law = All-from_get_or (AllByRecursion (λ l. l < 2 * m.variables)) m.clauses [] (λ c h. All-from_get_or (λ l. l < 2 * m.variables) (get_or m.clauses c []) 0 (λ k j. law.clause_low c k h j))
 
 -- a variable of frame t
 pub row_var : (m : Meaning) (v : ℕ → Bool) (t k : ℕ) → k < m.variables → get_or (row_at m v t) k false ≡ v (t * m.variables + k)

@@ -1,6 +1,6 @@
 -- Lists with one entry for each number below n, and lists of three parts, by places.
 use Rattle.std.proofs.Common.{◌≡◌, ℕ, zero, suc, ◌+◌, ◌<◌, ◌≤◌, List, [], ◌∷◌, ◌++◌, length, get_or, sym, ap, ◌∙◌, subst, ⊎_elim, arith}
-use Rattle.std.specs.List.{AllByRecursion as All}
+use Rattle.std.specs.List.{AllByRecursion}
 use Rattle.std.proofs.lemmas.List.{length-append, length_push, get_or_append_left, get_or-append-add, get_or_push}
 use Rattle.std.proofs.ByRecursion.{All-push}
 use Rattle.std.proofs.lemmas.Bool.{cases_lt}
@@ -22,9 +22,9 @@ module _ {X : Type 0} (Q : ℕ → X) (all : ℕ → List X) (none : all 0 ≡ [
       (λ (b : n ≤ i). let e : n ≡ i = omega arith in get_or_push (all n) (Q n) d i (size ∙ e) ∙ ap Q e)
       (cases_lt i n)
 
-  pub each_from : (P : X → Type 0) (n : ℕ) → ((i : ℕ) → i < n → P (Q i)) → All P (all n)
-  each_from P zero h = subst (All P) (sym none) tt
-  each_from P (suc n) h = subst (All P) (sym (more n)) (All-push P (all n) (Q n) (each_from P n (λ i l. h i (omega arith))) (h n (omega arith)))
+  pub each_from : (P : X → Type 0) (n : ℕ) → ((i : ℕ) → i < n → P (Q i)) → AllByRecursion P (all n)
+  each_from P zero h = subst (AllByRecursion P) (sym none) tt
+  each_from P (suc n) h = subst (AllByRecursion P) (sym (more n)) (All-push P (all n) (Q n) (each_from P n (λ i l. h i (omega arith))) (h n (omega arith)))
 
 -- three parts, of which the first has a entries and the second b
 module _ {X : Type 0} (xs ys zs : List X) (a b : ℕ) (first : length xs ≡ a) (second : length ys ≡ b) where

@@ -1,6 +1,6 @@
 -- The questions of a trace and of an induction, in their order.
 use Rattle.std.proofs.Common.{◌≡◌, ℕ, zero, suc, ◌+◌, ◌<◌, ◌≤◌, List, [], ◌∷◌, ◌++◌, map, length, get_or, sym, refl, ap, ◌∙◌, subst, ap₂, ⊎_elim, arith}
-use Rattle.std.specs.List.{AllByRecursion as All}
+use Rattle.std.specs.List.{AllByRecursion}
 use Rattle.std.proofs.lemmas.List.{length-append, length-map, length_push, get_or_append_left, get_or-append-add, get_or-map, get_or_push}
 use Rattle.std.proofs.ByRecursion.{All-append, All-push, All-map, All-get_or, All-from_get_or}
 use Rattle.std.proofs.lemmas.Bool.{cases_lt}
@@ -36,7 +36,7 @@ step_at m F (suc n) i c h l =
     ∙ get_or-append-add (step_questions m F n) more c [] ∙ get_or-map (step_question m (F n)) (F (suc n)) c [] [] c<) l)
     (cases_lt i n)
 
-steps_from : (m : Meaning) (F : ℕ → List (List ℕ)) (n : ℕ) → ((i : ℕ) → i < n → All (λ c. Unsat (step_question m (F i) c)) (F (suc i))) → All Unsat (step_questions m F n)
+steps_from : (m : Meaning) (F : ℕ → List (List ℕ)) (n : ℕ) → ((i : ℕ) → i < n → AllByRecursion (λ c. Unsat (step_question m (F i) c)) (F (suc i))) → AllByRecursion Unsat (step_questions m F n)
 steps_from m F zero h = tt
 steps_from m F (suc n) h =
     All-append Unsat (step_questions m F n) (map (step_question m (F n)) (F (suc n)))
@@ -66,7 +66,7 @@ trace_in_order m o F n = record {
     safe_count = let c = each_count (λ i. safe_question m o (F i)) (safe_questions m o F) refl (λ _. refl) (suc n) in omega arith
 
 -- the questions in their order have no answer if, and only if, each by itself has none
-pub trace_each : (m : Meaning) (o : ℕ) (F : ℕ → List (List ℕ)) (n : ℕ) → All Unsat (questions_of_trace m o F n) → TraceRefuted m o F n
+pub trace_each : (m : Meaning) (o : ℕ) (F : ℕ → List (List ℕ)) (n : ℕ) → AllByRecursion Unsat (questions_of_trace m o F n) → TraceRefuted m o F n
 trace_each m o F n h =
     let order = trace_in_order m o F n in
     let size = order.count in
@@ -79,7 +79,7 @@ trace_each m o F n h =
       closing = subst Unsat (order.closing (step_count F n + (n + 1)) refl) (by (step_count F n + (n + 1)) (omega arith));
     }
 
-pub trace_all : (m : Meaning) (o : ℕ) (F : ℕ → List (List ℕ)) (n : ℕ) → TraceRefuted m o F n → All Unsat (questions_of_trace m o F n)
+pub trace_all : (m : Meaning) (o : ℕ) (F : ℕ → List (List ℕ)) (n : ℕ) → TraceRefuted m o F n → AllByRecursion Unsat (questions_of_trace m o F n)
 unfolding questions_of_trace
 trace_all m o F n r =
     All-push Unsat (step_questions m F n ++ safe_questions m o F (suc n)) (closing_question m F n)
@@ -99,7 +99,7 @@ induction_in_order m o k = record {
     size : length (base_questions m o k) ≡ k
     size = each_count (base_question m o) (base_questions m o) refl (λ _. refl) k
 
-pub induction_each : (m : Meaning) (o k : ℕ) → All Unsat (questions_of_induction m o k) → InductionRefuted m o k
+pub induction_each : (m : Meaning) (o k : ℕ) → AllByRecursion Unsat (questions_of_induction m o k) → InductionRefuted m o k
 induction_each m o k h =
     let order = induction_in_order m o k in
     let size = order.count in
@@ -109,7 +109,7 @@ induction_each m o k h =
       last = subst Unsat (order.last k refl) (by k (omega arith));
     }
 
-pub induction_all : (m : Meaning) (o k : ℕ) → InductionRefuted m o k → All Unsat (questions_of_induction m o k)
+pub induction_all : (m : Meaning) (o k : ℕ) → InductionRefuted m o k → AllByRecursion Unsat (questions_of_induction m o k)
 unfolding questions_of_induction
 induction_all m o k r =
     All-push Unsat (base_questions m o k) (last_question m o k) (each_from (base_question m o) (base_questions m o) refl (λ _. refl) Unsat k r.base) r.last

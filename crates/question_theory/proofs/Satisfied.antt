@@ -1,6 +1,6 @@
 -- Settings that satisfy clauses, where these are joined, moved or denied.
 use Rattle.std.proofs.Common.{◌≡◌, ℕ, zero, suc, ◌+◌, Bool, true, false, not, ◌&&◌, ◌||◌, List, [], ◌∷◌, ◌++◌, map, sym, refl, ap, ◌∙◌, ap₂, arith}
-use Rattle.std.specs.List.{range_with_len, AllByRecursion as All}
+use Rattle.std.specs.List.{range_with_len, AllByRecursion}
 use Rattle.std.proofs.lemmas.Bool.{and_parts, and_from}
 use Rattle.resolution.specs.Clauses.{literal_true, denial, holds, models}
 use Rattle.resolution.proofs.Settings.{denial_flips}
@@ -28,24 +28,24 @@ unit_is v l = plain (literal_true v l)
     plain false = refl
 
 -- clauses whose literals have, moved, the values that another setting gives them
-pub holds_moved : (u v : ℕ → Bool) (f : ℕ → ℕ) (P : ℕ → Type 0) → ((l : ℕ) → P l → literal_true v (f l) ≡ literal_true u l) → (c : List ℕ) → All P c → holds v (map f c) ≡ holds u c
+pub holds_moved : (u v : ℕ → Bool) (f : ℕ → ℕ) (P : ℕ → Type 0) → ((l : ℕ) → P l → literal_true v (f l) ≡ literal_true u l) → (c : List ℕ) → AllByRecursion P c → holds v (map f c) ≡ holds u c
 holds_moved u v f P h [] a = refl
 holds_moved u v f P h (l ∷ c) a = ap₂ (λ (x y : Bool). x || y) (h l a.0) (holds_moved u v f P h c a.1)
 
-pub models_moved : (u v : ℕ → Bool) (f : ℕ → ℕ) (P : ℕ → Type 0) → ((l : ℕ) → P l → literal_true v (f l) ≡ literal_true u l) → (cs : List (List ℕ)) → All (All P) cs → models v (map (map f) cs) ≡ models u cs
+pub models_moved : (u v : ℕ → Bool) (f : ℕ → ℕ) (P : ℕ → Type 0) → ((l : ℕ) → P l → literal_true v (f l) ≡ literal_true u l) → (cs : List (List ℕ)) → AllByRecursion (AllByRecursion P) cs → models v (map (map f) cs) ≡ models u cs
 models_moved u v f P h [] a = refl
 models_moved u v f P h (c ∷ cs) a = ap₂ (λ (x y : Bool). x && y) (holds_moved u v f P h c a.0) (models_moved u v f P h cs a.1)
 
-pub holds_same : (u v : ℕ → Bool) (P : ℕ → Type 0) → ((l : ℕ) → P l → literal_true v l ≡ literal_true u l) → (c : List ℕ) → All P c → holds v c ≡ holds u c
+pub holds_same : (u v : ℕ → Bool) (P : ℕ → Type 0) → ((l : ℕ) → P l → literal_true v l ≡ literal_true u l) → (c : List ℕ) → AllByRecursion P c → holds v c ≡ holds u c
 holds_same u v P h [] a = refl
 holds_same u v P h (l ∷ c) a = ap₂ (λ (x y : Bool). x || y) (h l a.0) (holds_same u v P h c a.1)
 
-pub models_same : (u v : ℕ → Bool) (P : ℕ → Type 0) → ((l : ℕ) → P l → literal_true v l ≡ literal_true u l) → (cs : List (List ℕ)) → All (All P) cs → models v cs ≡ models u cs
+pub models_same : (u v : ℕ → Bool) (P : ℕ → Type 0) → ((l : ℕ) → P l → literal_true v l ≡ literal_true u l) → (cs : List (List ℕ)) → AllByRecursion (AllByRecursion P) cs → models v cs ≡ models u cs
 models_same u v P h [] a = refl
 models_same u v P h (c ∷ cs) a = ap₂ (λ (x y : Bool). x && y) (holds_same u v P h c a.0) (models_same u v P h cs a.1)
 
 -- the units that deny each literal of a clause
-pub denied : (u v : ℕ → Bool) (f : ℕ → ℕ) (P : ℕ → Type 0) → ((l : ℕ) → P l → literal_true v (f l) ≡ literal_true u l) → (c : List ℕ) → All P c → models v (map (λ (l : ℕ). denial (f l) ∷ []) c) ≡ not (holds u c)
+pub denied : (u v : ℕ → Bool) (f : ℕ → ℕ) (P : ℕ → Type 0) → ((l : ℕ) → P l → literal_true v (f l) ≡ literal_true u l) → (c : List ℕ) → AllByRecursion P c → models v (map (λ (l : ℕ). denial (f l) ∷ []) c) ≡ not (holds u c)
 denied u v f P h [] a = refl
 denied u v f P h (l ∷ c) a =
     ap₂ (λ (x y : Bool). (x || false) && y) (denial_flips v (f l) ∙ ap not (h l a.0)) (denied u v f P h c a.1) ∙ neither (literal_true u l) (holds u c)
@@ -63,6 +63,6 @@ map_split v (suc n) a b zero c e d = let none : ⊥ = omega arith in absurd none
 map_split v (suc n) a b (suc k) c e d = ap (λ (r : List Bool). v a ∷ r) (map_split v n (a + 1) b k c (omega arith) (omega arith))
 
 -- each clause of a list that is satisfied
-pub all_from_models : (v : ℕ → Bool) (cs : List (List ℕ)) → models v cs ≡ true → All (λ c. holds v c ≡ true) cs
+pub all_from_models : (v : ℕ → Bool) (cs : List (List ℕ)) → models v cs ≡ true → AllByRecursion (λ c. holds v c ≡ true) cs
 all_from_models v [] h = tt
 all_from_models v (c ∷ cs) h = let p = and_parts (holds v c) (models v cs) h in (p.0, all_from_models v cs p.1)

@@ -1,6 +1,6 @@
 -- No question of a safe and closed trace has an answer.
 use Rattle.std.proofs.Common.{◌≡◌, ℕ, zero, suc, ◌+◌, ◌-◌, ◌*◌, ◌/◌, ◌<◌, ◌≤◌, Bool, true, false, not, ◌||◌, List, [], ◌∷◌, ◌++◌, map, length, get_or, sym, refl, ap, ◌∙◌, subst, ⊎_elim, arith}
-use Rattle.std.specs.List.{range_with_len, AllByRecursion as All}
+use Rattle.std.specs.List.{range_with_len, AllByRecursion}
 use Rattle.std.proofs.lemmas.List.FromFn.{length-map-range_with_len, get_or-map-range_with_len}
 use Rattle.std.proofs.ByRecursion.{All-get_or, All-from_get_or}
 use Rattle.std.proofs.lemmas.Bool.{cases_lt, and_parts, or_cases, or_from, both_ways, not-true}
@@ -15,7 +15,7 @@ use Rattle.question_theory.proofs.LinkedLiterals.{state_true, first_true, rule_t
 use Rattle.question_theory.proofs.FramesBefore.{before_at}
 use Rattle.question_theory.proofs.Refuted.{TraceRefuted}
 
-step_refuted : (m : Meaning) → Lawful m → (F : List (List ℕ)) (c : List ℕ) → StateClauses m F → All (OfState m) c →
+step_refuted : (m : Meaning) → Lawful m → (F : List (List ℕ)) (c : List ℕ) → StateClauses m F → AllByRecursion (OfState m) c →
     ((s x : List Bool) → length s ≡ m.state_bits → length x ≡ m.inputs → In m F s → holds (state_setting m (m.step s x)) c ≡ true) → Unsat (step_question m F c)
 unfolding step_question
 step_refuted m law F c oF oc h v q =
@@ -127,7 +127,7 @@ pub trace_refuted : (m : Meaning) → Lawful m → (o : ℕ) → o < m.rules →
     ((i : ℕ) → i ≤ n → StateClauses m (F i)) → SafeTrace m o F n → TraceRefuted m o F n
 trace_refuted m law o lo F n sc tr = record {
   steps = λ i l. All-from_get_or (λ c. Unsat (step_question m (F i) c)) (F (suc i)) [] (λ q h.
-      step_refuted m law (F i) (get_or (F (suc i)) q []) (sc i (omega arith)) (All-get_or (All (OfState m)) (F (suc i)) q [] h (sc (suc i) (omega arith)))
+      step_refuted m law (F i) (get_or (F (suc i)) q []) (sc i (omega arith)) (All-get_or (AllByRecursion (OfState m)) (F (suc i)) q [] h (sc (suc i) (omega arith)))
       (λ s x ls lx k. All-get_or (λ c. holds (state_setting m (m.step s x)) c ≡ true) (F (suc i)) q [] h
       (all_from_models (state_setting m (m.step s x)) (F (suc i)) (tr.steps i l s x ls lx k))));
   safe = λ i l. safe_refuted m law o lo (F i) (sc i l) (tr.safe i l);

@@ -1,6 +1,6 @@
 -- A trace whose questions have no answer is safe and closed, and a rule with such a trace is kept.
 use Rattle.std.proofs.Common.{◌≡◌, ℕ, zero, suc, ◌+◌, ◌-◌, ◌*◌, ◌/◌, ◌<◌, ◌≤◌, Bool, true, false, cond, not, ◌||◌, ltb, ◌⊎◌, List, [], ◌∷◌, ◌++◌, map, length, get_or, refl, ap, ◌∙◌, subst, inl, inr, ⊎_elim, arith}
-use Rattle.std.specs.List.{AllByRecursion as All}
+use Rattle.std.specs.List.{AllByRecursion}
 use Rattle.std.proofs.ByRecursion.{All-append}
 use Rattle.std.proofs.lemmas.Bool.{cases_lt, cases_Bool, and_from, and_cases, or_parts, or_left, or_right, cond-true, cond-false, lt-ltb, le-ltb, both_ways}
 use Rattle.resolution.specs.Clauses.{literal_true, denial, holds, models, Unsat}
@@ -18,7 +18,7 @@ use Rattle.question_theory.proofs.Refuted.{TraceRefuted}
 
 -- a clause that no row from F denies
 clause_steps : (m : Meaning) → Lawful m → (F : List (List ℕ)) (c : List ℕ) (s x : List Bool) → length s ≡ m.state_bits → length x ≡ m.inputs →
-    StateClauses m F → All (OfState m) c → In m F s → Unsat (step_question m F c) → holds (state_setting m (m.step s x)) c ≡ true
+    StateClauses m F → AllByRecursion (OfState m) c → In m F s → Unsat (step_question m F c) → holds (state_setting m (m.step s x)) c ≡ true
 unfolding step_question
 clause_steps m law F c s x ls lx oF oc h un =
     let u = (unrolls m law 1).setting s (λ _. x) ls (λ _ _. lx) in
@@ -32,7 +32,7 @@ clause_steps m law F c s x ls lx oF oc h un =
     (cases_Bool (holds (state_setting m (m.step s x)) c))
 
 clauses_step : (m : Meaning) → Lawful m → (F G : List (List ℕ)) (s x : List Bool) → length s ≡ m.state_bits → length x ≡ m.inputs →
-    StateClauses m F → StateClauses m G → In m F s → All (λ c. Unsat (step_question m F c)) G → In m G (m.step s x)
+    StateClauses m F → StateClauses m G → In m F s → AllByRecursion (λ c. Unsat (step_question m F c)) G → In m G (m.step s x)
 clauses_step m law F [] s x ls lx oF oG h un = refl
 clauses_step m law F (c ∷ G) s x ls lx oF oG h un =
     and_from (holds (state_setting m (m.step s x)) c) (models (state_setting m (m.step s x)) G)
@@ -73,14 +73,14 @@ module _ (u v : ℕ → Bool) (P : ℕ → Type 0) (same : (l : ℕ) → P l →
       and_from (literal_true v (denial x) || (literal_true v k || false)) (models v (map (λ (x : ℕ). denial x ∷ k ∷ []) c))
       (or_right (literal_true v (denial x)) (literal_true v k || false) (or_left (literal_true v k) false h)) (by_selector k c h)
 
-  by_literal : (k : ℕ) (c : List ℕ) → All P c → holds u c ≡ false → models v (map (λ (x : ℕ). denial x ∷ k ∷ []) c) ≡ true
+  by_literal : (k : ℕ) (c : List ℕ) → AllByRecursion P c → holds u c ≡ false → models v (map (λ (x : ℕ). denial x ∷ k ∷ []) c) ≡ true
   by_literal k [] a h = refl
   by_literal k (x ∷ c) a h =
       let p = or_parts (literal_true u x) (holds u c) h in
       and_from (literal_true v (denial x) || (literal_true v k || false)) (models v (map (λ (x : ℕ). denial x ∷ k ∷ []) c))
       (or_left (literal_true v (denial x)) (literal_true v k || false) (denial_flips v x ∙ ap not (same x a.0 ∙ p.0))) (by_literal k c a.1 p.1)
 
-  denies : (cs : List (List ℕ)) (a : ℕ) → All (All P) cs → ((q : ℕ) → q < length cs → v (a + q) ≡ not (holds u (get_or cs q []))) → models v (denials a cs) ≡ true
+  denies : (cs : List (List ℕ)) (a : ℕ) → AllByRecursion (AllByRecursion P) cs → ((q : ℕ) → q < length cs → v (a + q) ≡ not (holds u (get_or cs q []))) → models v (denials a cs) ≡ true
   denies [] a o h = refl
   denies (c ∷ cs) a o h =
       let e : a ≡ a + 0 = omega arith in
@@ -108,7 +108,7 @@ module _ (u v : ℕ → Bool) (P : ℕ → Type 0) (same : (l : ℕ) → P l →
 
 before_state : (m : Meaning) (F : ℕ → List (List ℕ)) (n : ℕ) → ((i : ℕ) → i < n → StateClauses m (F i)) → StateClauses m (before F n)
 before_state m F zero h = tt
-before_state m F (suc n) h = All-append (All (OfState m)) (before F n) (F n) (before_state m F n (λ i l. h i (omega arith))) (h n (omega arith))
+before_state m F (suc n) h = All-append (AllByRecursion (OfState m)) (before F n) (F n) (before_state m F n (λ i l. h i (omega arith))) (h n (omega arith))
 
 -- either one of the frames before n has the state, or none has
 look : (m : Meaning) (F : ℕ → List (List ℕ)) (s : List Bool) (n : ℕ) →

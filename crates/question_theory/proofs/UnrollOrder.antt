@@ -1,6 +1,6 @@
 -- The clauses of an unrolling, one by one.
 use Rattle.std.proofs.Common.{◌≡◌, ℕ, zero, suc, ◌+◌, ◌*◌, ◌<◌, ◌≤◌, List, [], ◌∷◌, ◌++◌, map, length, get_or, sym, refl, ap, ◌∙◌, subst, ap₂, ⊎_elim, suc-mul, zero-mul, arith}
-use Rattle.std.specs.List.{AllByRecursion as All}
+use Rattle.std.specs.List.{AllByRecursion}
 use Rattle.std.proofs.lemmas.List.{length-append, length-map, get_or-map, get_or_append_left, get_or-append-add}
 use Rattle.std.proofs.ByRecursion.{All-append, All-map, All-weaker, All-from_get_or}
 use Rattle.std.proofs.lemmas.Bool.{cases_lt}
@@ -94,22 +94,22 @@ rising_moved : (a : ℕ) (c : List ℕ) → Rising c → Rising (map (λ (l : �
 rising_moved a [] h = tt
 rising_moved a (x ∷ c) h = (All-map (λ y. a + x < y) (λ (l : ℕ). a + l) c (All-weaker (λ y. x < y) (λ y. a + x < a + y) (λ y k. omega arith) c h.0), rising_moved a c h.1)
 
-low_moved : (a b n : ℕ) (c : List ℕ) → a + b ≤ n → All (λ l. l < b) c → All (λ l. l < n) (map (λ (l : ℕ). a + l) c)
+low_moved : (a b n : ℕ) (c : List ℕ) → a + b ≤ n → AllByRecursion (λ l. l < b) c → AllByRecursion (λ l. l < n) (map (λ (l : ℕ). a + l) c)
 low_moved a b n c h k = All-map (λ l. l < n) (λ (l : ℕ). a + l) c (All-weaker (λ l. l < b) (λ l. a + l < n) (λ l j. omega arith) c k)
 
-upto_all : (m : Meaning) (P : List ℕ → Type 0) (n : ℕ) → ((t : ℕ) → t ≤ n → All P (clauses_at m t)) → All P (clauses_upto m n)
+upto_all : (m : Meaning) (P : List ℕ → Type 0) (n : ℕ) → ((t : ℕ) → t ≤ n → AllByRecursion P (clauses_at m t)) → AllByRecursion P (clauses_upto m n)
 unfolding clauses_upto
 upto_all m P zero h = h zero (omega arith)
 upto_all m P (suc n) h = All-append P (clauses_upto m n) (clauses_at m (suc n)) (upto_all m P n (λ t l. h t (omega arith))) (h (suc n) (omega arith))
 
-ties_all : (m : Meaning) (P : List ℕ → Type 0) (n : ℕ) → ((t : ℕ) → t < n → All P (tie m t 0 m.next)) → All P (ties m n)
+ties_all : (m : Meaning) (P : List ℕ → Type 0) (n : ℕ) → ((t : ℕ) → t < n → AllByRecursion P (tie m t 0 m.next)) → AllByRecursion P (ties m n)
 unfolding ties
 ties_all m P zero h = tt
 ties_all m P (suc n) h = All-append P (ties m n) (tie m n 0 m.next) (ties_all m P n (λ t l. h t (omega arith))) (h n (omega arith))
 
 tie_all : (m : Meaning) (P : List ℕ → Type 0) (t i : ℕ) (xs : List ℕ) →
     ((j : ℕ) → j < length xs → P (moved m t (get_or xs j 0) ∷ denial (moved m (suc t) (literal_of_state m (i + j))) ∷ []) × P (denial (moved m t (get_or xs j 0)) ∷ moved m (suc t) (literal_of_state m (i + j)) ∷ [])) →
-    All P (tie m t i xs)
+    AllByRecursion P (tie m t i xs)
 tie_all m P t i [] h = tt
 tie_all m P t i (x ∷ xs) h =
     let e : i + 0 ≡ i = omega arith in
@@ -182,19 +182,19 @@ unroll_in_order m law n = record {
         let r = suc-mul (suc t) m.variables in
         (omega arith, omega arith, omega arith, omega arith, omega arith)
 
-    low : All (All (λ l. l < 2 * (suc n * m.variables))) (clauses_upto m n ++ ties m n)
+    low : AllByRecursion (AllByRecursion (λ l. l < 2 * (suc n * m.variables))) (clauses_upto m n ++ ties m n)
     low =
-        All-append (All (λ l. l < 2 * (suc n * m.variables))) (clauses_upto m n) (ties m n)
-        (upto_all m (All (λ l. l < 2 * (suc n * m.variables))) n (λ t h.
+        All-append (AllByRecursion (λ l. l < 2 * (suc n * m.variables))) (clauses_upto m n) (ties m n)
+        (upto_all m (AllByRecursion (λ l. l < 2 * (suc n * m.variables))) n (λ t h.
         let s = mul-le (suc t) m.variables (suc n) m.variables (omega arith) (omega arith) in
         let q = suc-mul t m.variables in
-        All-map (All (λ l. l < 2 * (suc n * m.variables))) (map (moved m t)) m.clauses
-        (All-weaker (All (λ l. l < 2 * m.variables)) (λ c. All (λ l. l < 2 * (suc n * m.variables)) (map (moved m t) c)) (λ c k. low_moved (2 * (t * m.variables)) (2 * m.variables) (2 * (suc n * m.variables)) c (omega arith) k) m.clauses (lows m law))))
-        (ties_all m (All (λ l. l < 2 * (suc n * m.variables))) n (λ t h. tie_all m (All (λ l. l < 2 * (suc n * m.variables))) t 0 m.next (λ j g.
+        All-map (AllByRecursion (λ l. l < 2 * (suc n * m.variables))) (map (moved m t)) m.clauses
+        (All-weaker (AllByRecursion (λ l. l < 2 * m.variables)) (λ c. AllByRecursion (λ l. l < 2 * (suc n * m.variables)) (map (moved m t) c)) (λ c k. low_moved (2 * (t * m.variables)) (2 * m.variables) (2 * (suc n * m.variables)) c (omega arith) k) m.clauses (lows m law))))
+        (ties_all m (AllByRecursion (λ l. l < 2 * (suc n * m.variables))) n (λ t h. tie_all m (AllByRecursion (λ l. l < 2 * (suc n * m.variables))) t 0 m.next (λ j g.
         let b = bounds t h j g in
         ((omega arith, (omega arith, tt)), (omega arith, (omega arith, tt))))))
 
-    rise : All Rising (clauses_upto m n ++ ties m n)
+    rise : AllByRecursion Rising (clauses_upto m n ++ ties m n)
     rise =
         All-append Rising (clauses_upto m n) (ties m n)
         (upto_all m Rising n (λ t h. All-map Rising (map (moved m t)) m.clauses

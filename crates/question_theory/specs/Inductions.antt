@@ -1,6 +1,6 @@
 -- Induction over k rows, and the questions that say that it holds.
 use Rattle.std.specs.Prelude.{◌≡◌, ℕ, zero, suc, ◌+◌, ◌<◌, ◌≤◌, Bool, false, cond, List, [], ◌∷◌, ◌++◌, length, slice_index}
-use Rattle.std.specs.List.{AllByRecursion as All}
+use Rattle.std.specs.List.{AllByRecursion}
 use Rattle.resolution.specs.Clauses.{denial, Unsat}
 use Rattle.machine.specs.Meaning.{Meaning, Lawful}
 use Rattle.machine.specs.Runs.{Run, Breaks, Kept}
@@ -45,8 +45,8 @@ pub record Inductive (m : Meaning) (o k : ℕ) : Type 0 where
 
 -- where no question of the induction has an answer it holds, and the rule is kept
 abbrev pub InductionLaw : Type 0
-InductionLaw = (m : Meaning) → Lawful m → (o : ℕ) → o < m.rules → (k : ℕ) → All Unsat (questions_of_induction m o k) → Inductive m o k × Kept m o
+InductionLaw = (m : Meaning) → Lawful m → (o : ℕ) → o < m.rules → (k : ℕ) → AllByRecursion Unsat (questions_of_induction m o k) → Inductive m o k × Kept m o
 
 -- where the induction holds, none of its questions has an answer
 abbrev pub InductionComplete : Type 0
-InductionComplete = (m : Meaning) → Lawful m → (o : ℕ) → o < m.rules → (k : ℕ) → Inductive m o k → All Unsat (questions_of_induction m o k)
+InductionComplete = (m : Meaning) → Lawful m → (o : ℕ) → o < m.rules → (k : ℕ) → Inductive m o k → AllByRecursion Unsat (questions_of_induction m o k)

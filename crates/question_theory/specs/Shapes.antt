@@ -1,6 +1,6 @@
 -- Questions and their clauses by number, each counted from 0, and what every clause is like.
 use Rattle.std.specs.Prelude.{◌≡◌, ℕ, zero, suc, ◌+◌, ◌-◌, ◌*◌, ◌<◌, ◌≤◌, false, cond, List, [], ◌∷◌, map, length, get_or, take, drop, nat_lt, slice_index, slice_index_or}
-use Rattle.std.specs.List.{flat_map, AllByRecursion as All}
+use Rattle.std.specs.List.{flat_map, AllByRecursion}
 use Rattle.resolution.specs.Clauses.{denial, Rising}
 use Rattle.machine.specs.Meaning.{Meaning, Lawful}
 use Rattle.question_theory.specs.Unrolling.{moved, literal_of_state, unroll}
@@ -9,7 +9,7 @@ use Rattle.question_theory.specs.Inductions.{bit_literal, base_question, last_qu
 
 -- each clause rises, and its literals are below a bound
 abbrev pub Fine : ℕ → List (List ℕ) → Type 0
-Fine bound cs = All (λ c. Rising c × All (λ l. l < bound) c) cs
+Fine bound cs = AllByRecursion (λ c. Rising c × AllByRecursion (λ l. l < bound) c) cs
 
 -- Clauses of an unrolling
 
@@ -116,7 +116,7 @@ pub record TraceFineness (m : Meaning) (o : ℕ) (F : ℕ → List (List ℕ)) (
 
 abbrev pub TraceFine : Type 0
 TraceFine = (m : Meaning) → Lawful m → (o : ℕ) → o < m.rules → (F : ℕ → List (List ℕ)) (n : ℕ) →
-    ((i : ℕ) → i ≤ n → StateClauses m (F i)) → ((i : ℕ) → i ≤ n → All Rising (F i)) → TraceFineness m o F n
+    ((i : ℕ) → i ≤ n → StateClauses m (F i)) → ((i : ℕ) → i ≤ n → AllByRecursion Rising (F i)) → TraceFineness m o F n
 
 -- Frames of a trace
 

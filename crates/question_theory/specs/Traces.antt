@@ -1,6 +1,6 @@
 -- Traces of frames, and the questions that say that a trace is safe and closed.
 use Rattle.std.specs.Prelude.{◌≡◌, ℕ, zero, suc, ◌+◌, ◌-◌, ◌*◌, ◌/◌, ◌<◌, ◌≤◌, Bool, true, false, List, [], ◌∷◌, ◌++◌, map, length, slice_index, slice_index_or}
-use Rattle.std.specs.List.{AllByRecursion as All}
+use Rattle.std.specs.List.{AllByRecursion}
 use Rattle.resolution.specs.Clauses.{denial, models, Unsat}
 use Rattle.machine.specs.Meaning.{Meaning, Lawful}
 use Rattle.machine.specs.Runs.{Kept}
@@ -12,7 +12,7 @@ OfState m l = (1 + m.inputs ≤ l / 2) × (l / 2 < 1 + m.inputs + m.state_bits)
 
 -- every literal of the clauses is one of a state bit
 abbrev pub StateClauses : Meaning → List (List ℕ) → Type 0
-StateClauses m cs = All (All (OfState m)) cs
+StateClauses m cs = AllByRecursion (AllByRecursion (OfState m)) cs
 
 -- the setting that a state gives the variables of the state bits
 abbrev pub state_setting : Meaning → List Bool → ℕ → Bool
@@ -78,9 +78,9 @@ pub record SafeTrace (m : Meaning) (o : ℕ) (F : ℕ → List (List ℕ)) (n : 
 -- a trace whose first frame has the start, and whose questions have no answer, is safe, and its rule is kept
 abbrev pub TraceLaw : Type 0
 TraceLaw = (m : Meaning) → Lawful m → (o : ℕ) → o < m.rules → (F : ℕ → List (List ℕ)) (n : ℕ) → 0 < n →
-    ((i : ℕ) → i ≤ n → StateClauses m (F i)) → In m (F 0) m.start → All Unsat (questions_of_trace m o F n) → SafeTrace m o F n × Kept m o
+    ((i : ℕ) → i ≤ n → StateClauses m (F i)) → In m (F 0) m.start → AllByRecursion Unsat (questions_of_trace m o F n) → SafeTrace m o F n × Kept m o
 
 -- no question of a safe trace has an answer
 abbrev pub TraceComplete : Type 0
 TraceComplete = (m : Meaning) → Lawful m → (o : ℕ) → o < m.rules → (F : ℕ → List (List ℕ)) (n : ℕ) → 0 < n →
-    ((i : ℕ) → i ≤ n → StateClauses m (F i)) → SafeTrace m o F n → All Unsat (questions_of_trace m o F n)
+    ((i : ℕ) → i ≤ n → StateClauses m (F i)) → SafeTrace m o F n → AllByRecursion Unsat (questions_of_trace m o F n)

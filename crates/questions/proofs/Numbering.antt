@@ -1,6 +1,6 @@
 -- Questions of a trace that stands on the stacks, by their numbers.
 use Rattle.std.proofs.Common.{◌≡◌, ℕ, zero, suc, ◌+◌, ◌-◌, ◌<◌, ◌≤◌, min, List, [], ◌∷◌, ◌++◌, map, length, get_or, Some, None, Option, sym, refl, ap, ◌∙◌, ap₂, arith}
-use Rattle.std.specs.List.{AllByRecursion as All}
+use Rattle.std.specs.List.{AllByRecursion}
 use Rattle.std.proofs.ByRecursion.{All-get_or}
 use Rattle.resolution.specs.Clauses.{denial}
 use Rattle.machine.specs.Meaning.{Meaning, Lawful}
@@ -21,7 +21,7 @@ use Rattle.questions.proofs.StackedFrames.{marks_up, steps_are}
 use Rattle.questions.proofs.ClosingStacked.{closing_is}
 
 -- literals of state bits are not moved beyond the highest
-denied_same : (m : Meaning) → Lawful m → (c : List ℕ) → All (OfState m) c → map (denied_next m) c ≡ map (λ (l : ℕ). denial (moved m 1 l) ∷ []) c
+denied_same : (m : Meaning) → Lawful m → (c : List ℕ) → AllByRecursion (OfState m) c → map (denied_next m) c ≡ map (λ (l : ℕ). denial (moved m 1 l) ∷ []) c
 denied_same m law [] h = refl
 denied_same m law (l ∷ c) h =
     let few = law.few in
@@ -30,7 +30,7 @@ denied_same m law (l ∷ c) h =
     let e : min (moved m 1 l) 4294967295 ≡ moved m 1 l = omega arith in
     ap₂ (λ (x : ℕ) (cs : List (List ℕ)). (denial x ∷ []) ∷ cs) e (denied_same m law c h.1)
 
-pub step_is : (m : Meaning) → Lawful m → (cs : List (List ℕ)) (c : List ℕ) → All (OfState m) c → step_clauses m cs c ≡ step_question m cs c
+pub step_is : (m : Meaning) → Lawful m → (cs : List (List ℕ)) (c : List ℕ) → AllByRecursion (OfState m) c → step_clauses m cs c ≡ step_question m cs c
 unfolding step_clauses step_question
 step_is m law cs c h = ap (λ (ds : List (List ℕ)). unroll m 1 ++ cs ++ ds) (denied_same m law c h)
 
@@ -63,7 +63,7 @@ module _ (f : Frames) (ls : List ℕ) (ps : List Span) (s : Stacked f ls ps) whe
         let c< : c < (before_frame f (suc (suc i))).clauses - (before_frame f (suc i)).clauses = omega arith in
         let c<F : c < length (frame f ls ps (suc i)) = omega arith in
         ap (step_clauses m (F i)) (next_is i c c<)
-        ∙ step_is m law (F i) (get_or (F (suc i)) c []) (All-get_or (All (OfState m)) (F (suc i)) c [] c<F (states (suc i) (omega arith)))
+        ∙ step_is m law (F i) (get_or (F (suc i)) c []) (All-get_or (AllByRecursion (OfState m)) (F (suc i)) c [] c<F (states (suc i) (omega arith)))
         ∙ sym ((trace_in_order m o F (last_frame f)).step q i c (omega arith) i< c<F)
 
     found_safe : (q i : ℕ) → i ≤ last_frame f → q ≡ steps_of f + i → asked m o f ls ps (Safe i) ≡ get_or (questions_on m o f ls ps) q []

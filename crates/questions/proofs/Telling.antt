@@ -1,6 +1,6 @@
 -- What the questions of a trace that stands on the stacks tell.
 use Rattle.std.proofs.Common.{ℕ, zero, suc, ◌<◌, List, [], ◌++◌, map, length, get_or, refl, arith}
-use Rattle.std.specs.List.{AllByRecursion as All}
+use Rattle.std.specs.List.{AllByRecursion}
 use Rattle.std.proofs.ByRecursion.{All-push, All-append, All-map, All-weaker, All-from_get_or}
 use Rattle.resolution.specs.Clauses.{Rising}
 use Rattle.machine.specs.Meaning.{Meaning, Lawful}
@@ -15,24 +15,24 @@ use Rattle.questions.specs.Closing.{last_frame}
 use Rattle.questions.specs.Laws.{TellsOf}
 
 -- clauses that are fine rise
-fine_rise : (bound : ℕ) (cs : List (List ℕ)) → Fine bound cs → All Rising cs
-fine_rise bound cs h = All-weaker (λ c. Rising c × All (λ l. l < bound) c) Rising (λ c p. p.0) cs h
+fine_rise : (bound : ℕ) (cs : List (List ℕ)) → Fine bound cs → AllByRecursion Rising cs
+fine_rise bound cs h = All-weaker (λ c. Rising c × AllByRecursion (λ l. l < bound) c) Rising (λ c p. p.0) cs h
 
 module _ (m : Meaning) (o : ℕ) (F : ℕ → List (List ℕ)) where
-  steps_rise : (n : ℕ) → ((i c : ℕ) → i < n → c < length (F (suc i)) → All Rising (step_question m (F i) (get_or (F (suc i)) c []))) → All (All Rising) (step_questions m F n)
+  steps_rise : (n : ℕ) → ((i c : ℕ) → i < n → c < length (F (suc i)) → AllByRecursion Rising (step_question m (F i) (get_or (F (suc i)) c []))) → AllByRecursion (AllByRecursion Rising) (step_questions m F n)
   steps_rise zero h = tt
   steps_rise (suc n) h =
-      All-append (All Rising) (step_questions m F n) (map (step_question m (F n)) (F (suc n)))
+      All-append (AllByRecursion Rising) (step_questions m F n) (map (step_question m (F n)) (F (suc n)))
       (steps_rise n (λ i c l k. h i c (omega arith) k))
-      (All-map (All Rising) (step_question m (F n)) (F (suc n)) (All-from_get_or (λ c. All Rising (step_question m (F n) c)) (F (suc n)) [] (λ c k. h n c (omega arith) k)))
+      (All-map (AllByRecursion Rising) (step_question m (F n)) (F (suc n)) (All-from_get_or (λ c. AllByRecursion Rising (step_question m (F n) c)) (F (suc n)) [] (λ c k. h n c (omega arith) k)))
 
-  questions_rise : (n : ℕ) → TraceFineness m o F n → All (All Rising) (questions_of_trace m o F n)
+  questions_rise : (n : ℕ) → TraceFineness m o F n → AllByRecursion (AllByRecursion Rising) (questions_of_trace m o F n)
   unfolding questions_of_trace
   questions_rise n fine =
-      All-push (All Rising) (step_questions m F n ++ safe_questions m o F (suc n)) (closing_question m F n)
-      (All-append (All Rising) (step_questions m F n) (safe_questions m o F (suc n))
+      All-push (AllByRecursion Rising) (step_questions m F n ++ safe_questions m o F (suc n)) (closing_question m F n)
+      (All-append (AllByRecursion Rising) (step_questions m F n) (safe_questions m o F (suc n))
       (steps_rise n (λ i c l k. fine_rise _ _ (fine.step i c l k)))
-      (each_from (λ i. safe_question m o (F i)) (safe_questions m o F) refl (λ _. refl) (All Rising) (suc n) (λ i l. fine_rise _ _ (fine.safe i (omega arith)))))
+      (each_from (λ i. safe_question m o (F i)) (safe_questions m o F) refl (λ _. refl) (AllByRecursion Rising) (suc n) (λ i l. fine_rise _ _ (fine.safe i (omega arith)))))
       (fine_rise _ _ fine.closing)
 
 pub tells : (m : Meaning) → Lawful m → (o : ℕ) (f : Frames) → TellsOf m o f

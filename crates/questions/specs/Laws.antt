@@ -1,6 +1,6 @@
 -- What the questions of a trace whose frames stand on the stacks are, and what they tell.
 use Rattle.std.specs.Prelude.{◌≡◌, ℕ, ◌<◌, ◌≤◌, List, [], length, Option, MatchOption, slice_index_or}
-use Rattle.std.specs.List.{AllByRecursion as All}
+use Rattle.std.specs.List.{AllByRecursion}
 use Rattle.resolution.specs.Clauses.{Unsat, Rising}
 use Rattle.machine.specs.Meaning.{Meaning, Lawful}
 use Rattle.machine.specs.Runs.{Kept}
@@ -35,13 +35,13 @@ Found f q r = (m : Meaning) → Lawful m → (o : ℕ) (ls : List ℕ) (ps : Lis
 -- what the questions of a trace tell of its rule
 pub record Telling (m : Meaning) (o : ℕ) (F : ℕ → List (List ℕ)) (n : ℕ) : Type 0 where
   -- where the start is in the first frame, and no question has an answer, the trace is safe, and the rule is kept
-  pub sound : In m (F 0) m.start → All Unsat (questions_of_trace m o F n) → SafeTrace m o F n × Kept m o
+  pub sound : In m (F 0) m.start → AllByRecursion Unsat (questions_of_trace m o F n) → SafeTrace m o F n × Kept m o
   -- no question of a safe trace has an answer
-  pub complete : SafeTrace m o F n → All Unsat (questions_of_trace m o F n)
+  pub complete : SafeTrace m o F n → AllByRecursion Unsat (questions_of_trace m o F n)
   -- where the clauses of the frames rise, those of each question do, and their literals are low
-  pub fine : ((i : ℕ) → i ≤ n → All Rising (F i)) → TraceFineness m o F n
+  pub fine : ((i : ℕ) → i ≤ n → AllByRecursion Rising (F i)) → TraceFineness m o F n
   -- so all clauses of all questions rise
-  pub rising : ((i : ℕ) → i ≤ n → All Rising (F i)) → All (All Rising) (questions_of_trace m o F n)
+  pub rising : ((i : ℕ) → i ≤ n → AllByRecursion Rising (F i)) → AllByRecursion (AllByRecursion Rising) (questions_of_trace m o F n)
 
 -- so it is for each trace of two frames or more that stands on the stacks
 abbrev pub TellsOf : Meaning → ℕ → Frames → Type 0

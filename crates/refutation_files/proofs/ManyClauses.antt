@@ -2,7 +2,7 @@
 use Rattle.std.proofs.Common.{◌≡◌, ℕ, ◌+◌, ◌-◌, ◌<◌, ◌≤◌, true, false, List, [], ◌∷◌, ◌++◌, length, take, drop, sym, refl, ap, ◌∙◌, subst, arith}
 use Rattle.std.proofs.ByRecursion.{All-push, All-weaker}
 use Rattle.std.proofs.lemmas.List.{append-nil, length-append, length-drop, take_all, take-append-le, drop_at, drop-append-le, flat_map_more, map_push, nil_from_length}
-use Rattle.std.specs.List.{flat_map, AllByRecursion as All}
+use Rattle.std.specs.List.{flat_map, AllByRecursion}
 use Rattle.certificate.specs.declared.record.Record.{Record}
 use Rattle.certificate.specs.Records.{encodes}
 use Rattle.resolution.specs.Clauses.{Rising}
@@ -22,7 +22,7 @@ run_kept xs ys s h =
     ap (take s.length) (drop-append-le s.start xs ys (omega arith))
     ∙ take-append-le s.length (drop s.start xs) ys (omega (arith, length-drop s.start xs))
 
-runs_kept : (xs ys : List ℕ) (ss : List Span) → All (Within (length xs)) ss → runs (xs ++ ys) ss ≡ runs xs ss
+runs_kept : (xs ys : List ℕ) (ss : List Span) → AllByRecursion (Within (length xs)) ss → runs (xs ++ ys) ss ≡ runs xs ss
 runs_kept xs ys [] h = refl
 runs_kept xs ys (s ∷ ss) h =
     ap (λ (x : List ℕ). x ∷ runs (xs ++ ys) ss) (run_kept xs ys s h.0) ∙ ap (λ (x : List (List ℕ)). run xs s ∷ x) (runs_kept xs ys ss h.1)
@@ -32,8 +32,8 @@ run_last xs ys s a b = ap (take s.length) (drop_at xs ys s.start (sym a)) ∙ ta
 
 -- the clauses that have been read, in literals and spans; the clauses of the bytes begin with them
 pub record Filed (bytes rest literals : List ℕ) (spans : List Span) : Type 0 where
-  pub rising : All Rising (runs literals spans)
-  pub within : All (Within (length literals)) spans
+  pub rising : AllByRecursion Rising (runs literals spans)
+  pub within : AllByRecursion (Within (length literals)) spans
   pub joint : literals ≡ flat_map (λ c. c) (runs literals spans)
   pub taken : bytes ≡ encodes (flat_map clause_records (runs literals spans)) ++ rest
   pub ahead : (cs : List (List ℕ)) → ClausesOf bytes cs → (more : List (List ℕ)) × ClausesOf rest more
@@ -42,8 +42,8 @@ pub filed_none : (bytes rest literals : List ℕ) (spans : List Span) → rest �
 filed_none bytes rest literals spans e l s =
     let n : runs literals spans ≡ [] = ap (runs literals) s in
     record {
-      rising = subst (All Rising) (sym n) tt;
-      within = subst (All (Within (length literals))) (sym s) tt;
+      rising = subst (AllByRecursion Rising) (sym n) tt;
+      within = subst (AllByRecursion (Within (length literals))) (sym s) tt;
       joint = l ∙ sym (ap (flat_map (λ c. c)) n);
       taken = sym (ap (λ (x : List (List ℕ)). encodes (flat_map clause_records x) ++ rest) n ∙ e);
       ahead = λ cs h. (cs, (h.0, e ∙ h.1));
@@ -54,10 +54,10 @@ joined_push f cs c = flat_map_more f [] cs c
 
 module _ (bytes rest literals : List ℕ) (spans : List Span) (g : Filed bytes rest literals spans) (some : 1 ≤ length rest) where
   -- the next clause, where the bytes are those of clauses
-  next_clause : (cs : List (List ℕ)) → ClausesOf bytes cs → (d : List ℕ) × (more : List (List ℕ)) × Rising d × All Rising more × (rest ≡ clause_bytes d ++ encodes (flat_map clause_records more))
+  next_clause : (cs : List (List ℕ)) → ClausesOf bytes cs → (d : List ℕ) × (more : List (List ℕ)) × Rising d × AllByRecursion Rising more × (rest ≡ clause_bytes d ++ encodes (flat_map clause_records more))
   next_clause cs h = let p = g.ahead cs h in by p.0 p.1
     where
-      by : (more : List (List ℕ)) → ClausesOf rest more → (d : List ℕ) × (more : List (List ℕ)) × Rising d × All Rising more × (rest ≡ clause_bytes d ++ encodes (flat_map clause_records more))
+      by : (more : List (List ℕ)) → ClausesOf rest more → (d : List ℕ) × (more : List (List ℕ)) × Rising d × AllByRecursion Rising more × (rest ≡ clause_bytes d ++ encodes (flat_map clause_records more))
       by [] q = absurd (omega (arith, ap length q.1))
       by (d ∷ ds) q = (d, ds, q.0.0, q.0.1, q.1 ∙ encodes_append (clause_records d) (flat_map clause_records ds))
 
@@ -82,8 +82,8 @@ module _ (bytes rest literals : List ℕ) (spans : List Span) (g : Filed bytes r
         let n : runs all longer ≡ cs ++ r.0 ∷ [] = ap (runs all) e ∙ runs_more in
         let l = all_length in
         record {
-          rising = subst (All Rising) (sym n) (All-push Rising cs r.0 g.rising r.1);
-          within = subst (All (Within (length all))) (sym e)
+          rising = subst (AllByRecursion Rising) (sym n) (All-push Rising cs r.0 g.rising r.1);
+          within = subst (AllByRecursion (Within (length all))) (sym e)
               (All-push (Within (length all)) spans s (All-weaker (Within (length literals)) (Within (length all)) (λ t h. omega arith) spans g.within) (omega arith));
           joint = r.2 ∙ ap (λ (x : List ℕ). x ++ r.0) g.joint ∙ joined_push (λ c. c) cs r.0 ∙ sym (ap (flat_map (λ c. c)) n);
           taken = more_records (flat_map clause_records cs) (clause_records r.0) bytes rest after g.taken r.3
@@ -105,12 +105,12 @@ pub clause_longer : (bytes after literals all : List ℕ) → ClauseRead bytes a
 clause_longer bytes after literals all r = omega (arith, ap length r.2, length-append literals r.0)
 
 -- spans within the literals of rising clauses are those of a table
-proper_all : (literals : List ℕ) (spans : List Span) → All Rising (runs literals spans) → All (Within (length literals)) spans → All (Proper literals) spans
+proper_all : (literals : List ℕ) (spans : List Span) → AllByRecursion Rising (runs literals spans) → AllByRecursion (Within (length literals)) spans → AllByRecursion (Proper literals) spans
 proper_all literals [] h w = tt
 proper_all literals (s ∷ ss) h w = ((w.0, h.0), proper_all literals ss h.1 w.1)
 
 -- nothing is left
-pub filed_whole : (bytes rest literals : List ℕ) (spans : List Span) → Filed bytes rest literals spans → length rest ≡ 0 → Holds bytes literals (runs literals spans) × All (Proper literals) spans
+pub filed_whole : (bytes rest literals : List ℕ) (spans : List Span) → Filed bytes rest literals spans → length rest ≡ 0 → Holds bytes literals (runs literals spans) × AllByRecursion (Proper literals) spans
 filed_whole bytes rest literals spans g e =
     let cs = runs literals spans in (
       ((g.rising, g.taken ∙ ap (λ (x : List ℕ). encodes (flat_map clause_records cs) ++ x) (nil_from_length rest e) ∙ append-nil (encodes (flat_map clause_records cs))), g.joint),

@@ -1,7 +1,7 @@
 -- Reading one clause, record by record.
 use Rattle.std.proofs.Common.{◌≡◌, ℕ, ◌-◌, ◌<◌, true, false, List, [], ◌∷◌, ◌++◌, map, length, take, drop, None, sym, refl, ap, ◌∙◌, subst, arith}
 use Rattle.std.proofs.lemmas.List.{append_assoc, append-nil, map-append, take_rest, drop_at}
-use Rattle.std.specs.List.{AllByRecursion as All}
+use Rattle.std.specs.List.{AllByRecursion}
 use Rattle.certificate.specs.declared.record.Record.{Record}
 use Rattle.certificate.specs.declared.record.Record.TheVariants.{Literal, ClauseEnd}
 use Rattle.certificate.specs.Records.{encode, encodes, Taken}
@@ -41,7 +41,7 @@ module _ (bytes rest literals all : List ℕ) (g : Begun bytes rest literals all
         let s : x ≡ l = let z = p.0 in cc in
         (f, ap (λ (y : ℕ). y ∷ f) s, sym p.1)
 
-    pub begun_more : (longer : List ℕ) → longer ≡ all ++ l ∷ [] → All (λ y. y < l) g.clause → Begun bytes after literals longer
+    pub begun_more : (longer : List ℕ) → longer ≡ all ++ l ∷ [] → AllByRecursion (λ y. y < l) g.clause → Begun bytes after literals longer
     begun_more longer e a = record {
       clause = g.clause ++ l ∷ [];
       put = e ∙ ap (λ (x : List ℕ). x ++ l ∷ []) g.put ∙ append_assoc literals g.clause (l ∷ []);
@@ -54,7 +54,7 @@ module _ (bytes rest literals all : List ℕ) (g : Begun bytes rest literals all
           (q.0, p.1 ∙ ap (λ (x : List ℕ). g.clause ++ x) q.1 ∙ sym (append_assoc g.clause (l ∷ []) q.0), q.2);
     }
 
-    pub read_fallen : (All (λ y. y < l) g.clause → ⊥) → ClauseRead bytes after literals all false
+    pub read_fallen : (AllByRecursion (λ y. y < l) g.clause → ⊥) → ClauseRead bytes after literals all false
     read_fallen n d more r w =
         let p = g.ahead d more w in
         let q = literal_next p.0 more p.2 in

@@ -2,23 +2,23 @@
 use Rattle.std.proofs.Common.{◌≡◌, ℕ, suc, ◌-◌, ◌<◌, ◌≤◌, Bool, true, false, ltb, List, [], ◌∷◌, ◌++◌, length, get_or, subst, arith}
 use Rattle.std.proofs.ByRecursion.{All-push, All-get_or, All-from_get_or}
 use Rattle.std.proofs.lemmas.Bool.{ltb-true, ltb-false}
-use Rattle.std.specs.List.{AllByRecursion as All}
+use Rattle.std.specs.List.{AllByRecursion}
 use Rattle.resolution.specs.Clauses.{Rising}
 use Rattle.refutation_files.specs.ClauseFiles.{Fits}
 
-pub rising_push : (c : List ℕ) (l : ℕ) → Rising c → All (λ y. y < l) c → Rising (c ++ l ∷ [])
+pub rising_push : (c : List ℕ) (l : ℕ) → Rising c → AllByRecursion (λ y. y < l) c → Rising (c ++ l ∷ [])
 rising_push [] l r a = (tt, tt)
 rising_push (x ∷ xs) l r a = (All-push (λ y. x < y) xs l r.0 a.0, rising_push xs l r.1 a.1)
 
-all_middle : (P : ℕ → Type 0) (c d : List ℕ) (l : ℕ) → All P (c ++ l ∷ d) → P l
+all_middle : (P : ℕ → Type 0) (c d : List ℕ) (l : ℕ) → AllByRecursion P (c ++ l ∷ d) → P l
 all_middle P [] d l a = a.0
 all_middle P (x ∷ xs) d l a = all_middle P xs d l a.1
 
-pub rising_below : (c d : List ℕ) (l : ℕ) → Rising (c ++ l ∷ d) → All (λ y. y < l) c
+pub rising_below : (c d : List ℕ) (l : ℕ) → Rising (c ++ l ∷ d) → AllByRecursion (λ y. y < l) c
 rising_below [] d l r = tt
 rising_below (x ∷ xs) d l r = (all_middle (λ y. x < y) xs d l r.0, rising_below xs d l r.1)
 
-pub last_below : (c : List ℕ) (l : ℕ) → Rising c → get_or c (length c - 1) 0 < l → All (λ y. y < l) c
+pub last_below : (c : List ℕ) (l : ℕ) → Rising c → get_or c (length c - 1) 0 < l → AllByRecursion (λ y. y < l) c
 last_below [] l r h = tt
 last_below (x ∷ []) l r h = (h, tt)
 last_below (x ∷ y ∷ ys) l r h =

@@ -1,7 +1,7 @@
 // Reading a clause file.
 ghost use Rattle.std.specs.Prelude.{◌≡◌, ℕ, ◌+◌, ◌-◌, ◌^◌, ◌<◌, ◌≤◌, List, length, IfOk, MatchOption};
 ghost use Rattle.resolution.specs.Clauses.{Rising};
-ghost use Rattle.std.specs.List.{AllByRecursion as All};
+ghost use Rattle.std.specs.List.{AllByRecursion};
 ghost use Rattle.resolution.specs.Lists.{Proper};
 ghost use Rattle.stack.specs.Runs.{runs};
 ghost use Rattle.refutation_files.specs.ClauseFiles.{ClausesOf, Fits, Holds, ClauseRead};
@@ -60,7 +60,7 @@ fn span(start: usize, end: usize) -> Result<Span, AllocError>
 
 // The clauses of a file; none where the bytes are not those of a list of rising clauses.
 pub fn read_clauses(heap: Global, bytes: &[u8]) -> Result<Option<ClauseFile>, AllocError>
-    ensures { IfOk result (λ o. MatchOption o ((cs : List (List ℕ)) → ClausesOf bytes.now cs → ⊥) (λ f. Holds bytes.now f.literals.items (runs f.literals.items f.spans.items) × All (Proper f.literals.items) f.spans.items)) }
+    ensures { IfOk result (λ o. MatchOption o ((cs : List (List ℕ)) → ClausesOf bytes.now cs → ⊥) (λ f. Holds bytes.now f.literals.items (runs f.literals.items f.spans.items) × AllByRecursion (Proper f.literals.items) f.spans.items)) }
 {
     let mut cursor = Cursor::new(bytes);
     let mut literals = Vec::new(heap);

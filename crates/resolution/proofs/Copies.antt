@@ -1,6 +1,6 @@
 -- Copies of clauses from a list.
 use Rattle.std.proofs.Common.{◌≡◌, ℕ, ◌<◌, Bool, true, false, List, [], ◌∷◌, length, get_or, sym, subst}
-use Rattle.std.specs.List.{AllByRecursion as All}
+use Rattle.std.specs.List.{AllByRecursion}
 use Rattle.std.proofs.lemmas.List.{get_or-map}
 use Rattle.stack.specs.declared.spans.Span.{Span}
 use Rattle.stack.specs.Pushes.{PushedAs}
@@ -19,6 +19,6 @@ copied cs n used end ls ms r c h e p = copied_clause cs n used end ls ms r h (su
 pub runs_at : (ls : List ℕ) (ps : List Span) (i : ℕ) (d : Span) → i < length ps → numbered_clause (runs ls ps) i ≡ run ls (get_or ps i d)
 runs_at ls ps i d h = get_or-map (run ls) ps i d [] h
 
-pub proper_rising : (ls : List ℕ) (ps : List Span) → All (Proper ls) ps → All Rising (runs ls ps)
+pub proper_rising : (ls : List ℕ) (ps : List Span) → AllByRecursion (Proper ls) ps → AllByRecursion Rising (runs ls ps)
 proper_rising ls [] h = tt
 proper_rising ls (p ∷ ps) h = (h.0.1, proper_rising ls ps h.1)

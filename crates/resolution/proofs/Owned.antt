@@ -1,6 +1,6 @@
 -- The clauses of a refutation, by the spans of the areas.
 use Rattle.std.proofs.Common.{◌≡◌, ℕ, ◌+◌, ◌-◌, ◌<◌, ◌≤◌, min, true, List, [], ◌∷◌, ◌++◌, length, get_or, take, drop, set, Ok, sym, refl, ap, ◌∙◌, subst, arith}
-use Rattle.std.specs.List.{AllByRecursion as All}
+use Rattle.std.specs.List.{AllByRecursion}
 use Rattle.std.proofs.ByRecursion.{All-weaker, All-push}
 use Rattle.std.proofs.lemmas.List.{length-drop, length-take, length-map, get_or-map, get_or-take, get_or-drop, take_all, take-take, take_at, drop_at, drop-take, drop-set-add, take_more_set, map_push}
 use Rattle.stack.specs.declared.spans.Span.{Span}
@@ -41,14 +41,14 @@ run_kept n ls ms p e h =
     ∙ ap (drop p.start) (sym (take-take (p.start + p.length) n ms h) ∙ ap (take (p.start + p.length)) e ∙ take-take (p.start + p.length) n ls h)
     ∙ drop-take p.start p.length ls
 
-runs_kept : (n : ℕ) (ls ms : List ℕ) → take n ms ≡ take n ls → (ps : List Span) → All (λ p. p.start + p.length ≤ n) ps → runs ms ps ≡ runs ls ps
+runs_kept : (n : ℕ) (ls ms : List ℕ) → take n ms ≡ take n ls → (ps : List Span) → AllByRecursion (λ p. p.start + p.length ≤ n) ps → runs ms ps ≡ runs ls ps
 runs_kept n ls ms e [] h = refl
 runs_kept n ls ms e (p ∷ ps) h = ap (λ c. c ∷ runs ms ps) (run_kept n ls ms p e h.0) ∙ ap (λ cs. run ls p ∷ cs) (runs_kept n ls ms e ps h.1)
 
 run_new : (n : ℕ) (ls c : List ℕ) → n ≤ length ls → run (take n ls ++ c) (record { start = n; length = length c }) ≡ c
 run_new n ls c h = ap (take (length c)) (drop_at (take n ls) c n (simp length-take (omega arith))) ∙ take_all (length c) c (omega arith)
 
-own_push : (n a m : ℕ) (ls c : List ℕ) (ps : List Span) → n + length c ≤ length ls → a ≤ m → m < length ps → All (λ p. p.start + p.length ≤ n) (take (m - a) (drop a ps))
+own_push : (n a m : ℕ) (ls c : List ℕ) (ps : List Span) → n + length c ≤ length ls → a ≤ m → m < length ps → AllByRecursion (λ p. p.start + p.length ≤ n) (take (m - a) (drop a ps))
     → own_of (n + length c) a (m + 1) (placed n c ls) (placed m (record { start = n; length = length c } ∷ []) ps) ≡ own_of n a m ls ps ++ c ∷ []
 unfolding own_of
 own_push n a m ls c ps h k l e =
@@ -84,7 +84,7 @@ module _ (t : Refutation) (ls : List ℕ) (ps : List Span) (c : List ℕ) (s : S
         literals = omega arith;
         first = omega (arith, s.first);
         spans = omega arith;
-        each = subst (All (λ p. p.start + p.length ≤ t.literals.used + length c)) (sym (part_push ps t.first t.spans.used (record { start = t.literals.used; length = length c }) s.first k))
+        each = subst (AllByRecursion (λ p. p.start + p.length ≤ t.literals.used + length c)) (sym (part_push ps t.first t.spans.used (record { start = t.literals.used; length = length c }) s.first k))
             (All-push (λ p. p.start + p.length ≤ t.literals.used + length c) (take (t.spans.used - t.first) (drop t.first ps)) (record { start = t.literals.used; length = length c })
             (All-weaker (λ p. p.start + p.length ≤ t.literals.used) (λ p. p.start + p.length ≤ t.literals.used + length c) (λ p w. omega arith) (take (t.spans.used - t.first) (drop t.first ps)) s.each) (omega arith));
         used = let u = s.used in let v = ap entries grown_clauses in omega arith;
@@ -113,7 +113,7 @@ fresh_stands f a ls ps h k w =
         literals = h;
         first = omega arith;
         spans = k;
-        each = subst (λ m. All (λ p. p.start + p.length ≤ f) (take m (drop a ps))) (sym z) tt;
+        each = subst (λ m. AllByRecursion (λ p. p.start + p.length ≤ f) (take m (drop a ps))) (sym z) tt;
         used = let e : entries (own (fresh f a) ls ps) ≡ 0 = ap entries n in omega arith;
       },
       n,

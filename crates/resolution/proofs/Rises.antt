@@ -1,6 +1,6 @@
 -- Strictly rising clauses: by a test, and as resolvents.
 use Rattle.std.proofs.Common.{◌≡◌, ℕ, ◌+◌, ◌-◌, ◌<◌, ◌≤◌, Bool, true, false, cond, ◌&&◌, eqb, ltb, List, [], ◌∷◌, length, get_or, drop, sym, refl, ap, ◌∙◌, subst, ⊎_elim, arith}
-use Rattle.std.specs.List.{AllByRecursion as All}
+use Rattle.std.specs.List.{AllByRecursion}
 use Rattle.std.proofs.ByRecursion.{All-weaker}
 use Rattle.std.proofs.lemmas.List.{drop_more, drop_all}
 use Rattle.std.proofs.lemmas.Bool.{lt-ltb, ltb-true, ltb-false, cases_lt, cond_both, and_parts, and_from, false≢true}
@@ -59,31 +59,31 @@ rises_turn xs i h k =
     let e : i - 1 + 1 ≡ i = omega arith in
     subst (λ n. rises (drop (i - 1) xs) ≡ (ltb (get_or xs (i - 1) 0) (get_or xs n 0) && rises (drop n xs))) e (step xs (i - 1) (omega arith))
 
-all_without : (P : ℕ → Type 0) (p : ℕ) (xs : List ℕ) → All P xs → All P (without p xs)
+all_without : (P : ℕ → Type 0) (p : ℕ) (xs : List ℕ) → AllByRecursion P xs → AllByRecursion P (without p xs)
 all_without P p [] h = tt
 all_without P p (x ∷ xs) h =
-    cond_both (eqb x p) (without p xs) (x ∷ without p xs) (All P) (λ _. all_without P p xs h.1) (λ _. (h.0, all_without P p xs h.1))
+    cond_both (eqb x p) (without p xs) (x ∷ without p xs) (AllByRecursion P) (λ _. all_without P p xs h.1) (λ _. (h.0, all_without P p xs h.1))
 
 rising_without : (p : ℕ) (xs : List ℕ) → Rising xs → Rising (without p xs)
 rising_without p [] h = tt
 rising_without p (x ∷ xs) h =
     cond_both (eqb x p) (without p xs) (x ∷ without p xs) Rising (λ _. rising_without p xs h.1) (λ _. (all_without (λ y. x < y) p xs h.0, rising_without p xs h.1))
 
-all_merge_with : (P : ℕ → Type 0) (x : ℕ) (k : List ℕ → List ℕ) → P x → ((zs : List ℕ) → All P zs → All P (k zs)) → (ys : List ℕ) → All P ys → All P (merge_with x k ys)
+all_merge_with : (P : ℕ → Type 0) (x : ℕ) (k : List ℕ → List ℕ) → P x → ((zs : List ℕ) → AllByRecursion P zs → AllByRecursion P (k zs)) → (ys : List ℕ) → AllByRecursion P ys → AllByRecursion P (merge_with x k ys)
 all_merge_with P x k px hk [] h = (px, hk [] tt)
 all_merge_with P x k px hk (y ∷ ys) h =
-    cond_both (ltb x y) (x ∷ k (y ∷ ys)) (cond (ltb y x) (y ∷ merge_with x k ys) (x ∷ k ys)) (All P)
+    cond_both (ltb x y) (x ∷ k (y ∷ ys)) (cond (ltb y x) (y ∷ merge_with x k ys) (x ∷ k ys)) (AllByRecursion P)
     (λ _. (px, hk (y ∷ ys) h))
-    (λ _. cond_both (ltb y x) (y ∷ merge_with x k ys) (x ∷ k ys) (All P) (λ _. (h.0, all_merge_with P x k px hk ys h.1)) (λ _. (px, hk ys h.1)))
+    (λ _. cond_both (ltb y x) (y ∷ merge_with x k ys) (x ∷ k ys) (AllByRecursion P) (λ _. (h.0, all_merge_with P x k px hk ys h.1)) (λ _. (px, hk ys h.1)))
 
-all_merge : (P : ℕ → Type 0) (xs ys : List ℕ) → All P xs → All P ys → All P (merge xs ys)
+all_merge : (P : ℕ → Type 0) (xs ys : List ℕ) → AllByRecursion P xs → AllByRecursion P ys → AllByRecursion P (merge xs ys)
 all_merge P [] ys hx hy = hy
 all_merge P (x ∷ xs) ys hx hy = all_merge_with P x (merge xs) hx.0 (λ zs h. all_merge P xs zs hx.1 h) ys hy
 
-above : (x y : ℕ) (ys : List ℕ) → x ≤ y → All (λ z. y < z) ys → All (λ z. x < z) ys
+above : (x y : ℕ) (ys : List ℕ) → x ≤ y → AllByRecursion (λ z. y < z) ys → AllByRecursion (λ z. x < z) ys
 above x y ys h a = All-weaker (λ z. y < z) (λ z. x < z) (λ z l. omega arith) ys a
 
-rising_merge_with : (x : ℕ) (xs : List ℕ) → All (λ z. x < z) xs → ((zs : List ℕ) → Rising zs → Rising (merge xs zs)) → (ys : List ℕ) → Rising ys → Rising (merge_with x (merge xs) ys)
+rising_merge_with : (x : ℕ) (xs : List ℕ) → AllByRecursion (λ z. x < z) xs → ((zs : List ℕ) → Rising zs → Rising (merge xs zs)) → (ys : List ℕ) → Rising ys → Rising (merge_with x (merge xs) ys)
 rising_merge_with x xs a hk [] h = (all_merge (λ z. x < z) xs [] a tt, hk [] tt)
 rising_merge_with x xs a hk (y ∷ ys) h =
     cond_both (ltb x y) (x ∷ merge xs (y ∷ ys)) (cond (ltb y x) (y ∷ merge_with x (merge xs) ys) (x ∷ merge xs ys)) Rising

@@ -1,6 +1,6 @@
 -- Which way a step goes, and what comes of it.
 use Rattle.std.proofs.Common.{◌≡◌, ℕ, ◌+◌, ◌-◌, ◌<◌, ◌≤◌, true, false, cond, ◌&&◌, ltb, leb, List, [], ◌∷◌, ◌++◌, length, Ok, Err, Result, sym, refl, ap, ◌∙◌, subst, arith}
-use Rattle.std.specs.List.{AllByRecursion as All}
+use Rattle.std.specs.List.{AllByRecursion}
 use Rattle.std.proofs.ByRecursion.{All-push, All-get_or}
 use Rattle.std.proofs.lemmas.Bool.{lt-ltb, le-ltb, le-leb, lt-leb, leb-true, ltb-true, cond-true, cond-false, and_from, and_left, and_right, and_parts, eq-eqb, ne_eqb}
 use Rattle.std.proofs.lemmas.List.{nil_from_length}
@@ -133,11 +133,11 @@ module _ (t u : Refutation) (ls ms : List ℕ) (ps qs : List Span) (c : List ℕ
         goes_on = λ s. subst (Goes_on t u ls ms ps qs) (ap (added (own t ls ps)) (sym w)) (makes s);
       }
 
-  pub carried : (list : List (List ℕ)) → (Follows list (own t ls ps) → Implied list c) → (All Rising list → All Rising (own t ls ps) → Rising c) → Standing t ls ps → Carries list (own t ls ps) (own u ms qs)
+  pub carried : (list : List (List ℕ)) → (Follows list (own t ls ps) → Implied list c) → (AllByRecursion Rising list → AllByRecursion Rising (own t ls ps) → Rising c) → Standing t ls ps → Carries list (own t ls ps) (own u ms qs)
   carried list f g s =
       record {
         follows = λ a. subst (Follows list) (sym (makes s).clauses) (All-push (Implied list) (own t ls ps) c a (f a));
-        rises = λ a b. subst (All Rising) (sym (makes s).clauses) (All-push Rising (own t ls ps) c b (g a b));
+        rises = λ a b. subst (AllByRecursion Rising) (sym (makes s).clauses) (All-push Rising (own t ls ps) c b (g a b));
       }
 
 -- the end of a refutation

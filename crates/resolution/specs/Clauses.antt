@@ -1,6 +1,6 @@
 -- Literals, clauses, and the settings of variables that satisfy them.
 use Rattle.std.specs.Prelude.{ℕ, ◌+◌, ◌-◌, ◌/◌, ◌%◌, ◌<◌, Bool, true, false, cond, not, ◌&&◌, ◌||◌, List, [], ◌∷◌, ◌==◌, ◌≢◌}
-use Rattle.std.specs.List.{AllByRecursion as All}
+use Rattle.std.specs.List.{AllByRecursion}
 
 -- literal 2v says that variable v is true, 2v + 1 that it is false
 unfoldable pub literal_true : (ℕ → Bool) → ℕ → Bool
@@ -27,4 +27,4 @@ Unsat cs = (v : ℕ → Bool) → models v cs ≢ true
 -- strictly rising
 abbrev pub Rising : List ℕ → Type 0
 Rising [] = Unit {0}
-Rising (x ∷ xs) = All (λ y. x < y) xs × Rising xs
+Rising (x ∷ xs) = AllByRecursion (λ y. x < y) xs × Rising xs

@@ -1,6 +1,6 @@
 -- A refutation with the areas that its clauses stand in.
 use Rattle.std.specs.Prelude.{◌≡◌, ℕ, ◌+◌, ◌-◌, ◌≤◌, Bool, true, false, cond, List, [], ◌∷◌, length, take, drop, replicate, Ok, Err, Result}
-use Rattle.std.specs.List.{AllByRecursion as All}
+use Rattle.std.specs.List.{AllByRecursion}
 use Rattle.refusal.specs.declared.faults.DocketFault.{DocketFault}
 use Rattle.refusal.specs.declared.faults.DocketFault.TheVariants.{UnfitArea}
 use Rattle.refusal.specs.declared.faults.RefutationFault.{RefutationFault}
@@ -77,7 +77,7 @@ pub record Standing (t : Refutation) (ls : List ℕ) (ps : List Span) : Type 0 w
   pub literals : t.literals.used ≤ length ls
   pub first : t.first ≤ t.spans.used
   pub spans : t.spans.used ≤ length ps
-  pub each : All (λ p. p.start + p.length ≤ t.literals.used) (take (t.spans.used - t.first) (drop t.first ps))
+  pub each : AllByRecursion (λ p. p.start + p.length ≤ t.literals.used) (take (t.spans.used - t.first) (drop t.first ps))
   pub used : t.literals.used ≡ t.floor + entries (own t ls ps)
 
 -- what is below the refutation's marks stays
@@ -91,7 +91,7 @@ Implied list c = (v : ℕ → Bool) → models v list ≡ true → holds v c ≡
 
 -- each clause follows from the list
 abbrev pub Follows : List (List ℕ) → List (List ℕ) → Type 0
-Follows list clauses = All (Implied list) clauses
+Follows list clauses = AllByRecursion (Implied list) clauses
 
 -- how a step goes on, where the areas are as the last call left them
 pub record Goes_on (t u : Refutation) (ls ms : List ℕ) (ps qs : List Span) (after : List (List ℕ)) : Type 0 where
@@ -111,4 +111,4 @@ pub record Steps (t u : Refutation) (ls ms : List ℕ) (ps qs : List Span) (o : 
 -- what clauses have in common with those after a step: they follow from the list; they rise
 pub record Carries (list before after : List (List ℕ)) : Type 0 where
   pub follows : Follows list before → Follows list after
-  pub rises : All Rising list → All Rising before → All Rising after
+  pub rises : AllByRecursion Rising list → AllByRecursion Rising before → AllByRecursion Rising after

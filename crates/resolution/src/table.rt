@@ -1,6 +1,6 @@
 // A caller's own table of clauses.
 ghost use Rattle.std.specs.Prelude.{◌≡◌, ℕ, ◌+◌, ◌<◌, ◌≤◌, true, false, List, length, MatchOption, refl};
-ghost use Rattle.std.specs.List.{AllByRecursion as All};
+ghost use Rattle.std.specs.List.{AllByRecursion};
 ghost use Rattle.stack.specs.Runs.{runs};
 ghost use Rattle.resolution.specs.Clauses.{Rising};
 ghost use Rattle.resolution.specs.Lists.{Proper, Tells};
@@ -66,7 +66,7 @@ fn proper(literals: &[u32], span: Span) -> bool
 impl<'l, 's> ClauseTable<'l, 's> {
     // The table of these clauses, if each lies within the literals and rises.
     pub fn new(literals: &'l [u32], spans: &'s [Span]) -> Option<ClauseTable<'l, 's>>
-        ensures { MatchOption result (All (Proper literals.now) spans.now → ⊥) (λ t. (t.literals.now ≡ literals.now) × (t.spans.now ≡ spans.now) × All Rising (runs literals.now spans.now)) }
+        ensures { MatchOption result (AllByRecursion (Proper literals.now) spans.now → ⊥) (λ t. (t.literals.now ≡ literals.now) × (t.spans.now ≡ spans.now) × AllByRecursion Rising (runs literals.now spans.now)) }
     {
         for span in spans {
             if !proper(literals, *span) {

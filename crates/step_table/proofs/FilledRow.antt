@@ -1,7 +1,7 @@
 -- After its parts are written a row is filled.
 use Rattle.std.proofs.Common.{◌≡◌, ℕ, ◌+◌, ◌^◌, ◌<◌, ◌≤◌, Bool, false, eqb, List, [], ◌∷◌, ◌++◌, map, length, take, drop, set, sym, refl, ap, ◌∙◌, subst, arith}
 use lib.Seq.{paste}
-use Rattle.std.specs.List.{range_with_len, AllByRecursion as All}
+use Rattle.std.specs.List.{range_with_len, AllByRecursion}
 use Rattle.std.proofs.lemmas.List.FromFn.{length-map-range_with_len}
 use Rattle.std.proofs.lemmas.List.Edits.{length-paste, take-paste, drop-paste, paste-paste}
 use Rattle.std.proofs.ByRecursion.{All-append, All-from_get_or, All-get_or}
@@ -24,7 +24,7 @@ bits_back f (x ∷ xs) = both (bit_byte (f x)) (bits_back f xs)
     both : {b b' : Bool} {bs bs' : List Bool} → b ≡ b' → bs ≡ bs' → b ∷ bs ≡ b' ∷ bs'
     both e d = cc
 
-bytes_small : (f : ℕ → Bool) (xs : List ℕ) → All (λ b. b < 2) (map (λ k. byte (f k)) xs)
+bytes_small : (f : ℕ → Bool) (xs : List ℕ) → AllByRecursion (λ b. b < 2) (map (λ k. byte (f k)) xs)
 bytes_small f [] = tt
 bytes_small f (x ∷ xs) = (byte_small (f x), bytes_small f xs)
 
@@ -66,7 +66,7 @@ module _ (t : Table) (row next broken : ℕ) where
       three : {a a' b b' c c' : List Bool} → a ≡ a' → b ≡ b' → c ≡ c' → a ++ (b ++ c) ≡ a' ++ (b' ++ c')
       three d e f = cc
 
-  parts_small : All (λ b. b < 2) (parts t row next broken)
+  parts_small : AllByRecursion (λ b. b < 2) (parts t row next broken)
   unfolding parts
   parts_small =
       All-append (λ b. b < 2) (mark_bytes row (rows t) ++ bit_bytes next t.state_bits) (bit_bytes broken t.rules)
@@ -152,13 +152,13 @@ module _ (t : Table) (old : List ℕ) (given variables : ℕ) (all : given ≡ t
         both : {a a' b b' : List Bool} → a ≡ a' → b ≡ b' → a ++ b ≡ a' ++ b'
         both e d = cc
 
-    all_small : All (λ b. b < 2) (take (meant t).variables new)
+    all_small : AllByRecursion (λ b. b < 2) (take (meant t).variables new)
     all_small =
         let g : ℕ = t.inputs + t.state_bits in
         let ps : List ℕ = parts t row (t.next row) (t.broken row) in
         let front : List ℕ = take (1 + g) (set old 0 0) in
         let n : length front ≡ 1 + g = length-take-le (1 + g) (set old 0 0) (omega (arith, front_room)) in
-        subst (All (λ b. b < 2)) (sym taken)
+        subst (AllByRecursion (λ b. b < 2)) (sym taken)
         (All-append (λ b. b < 2) front ps
         (All-from_get_or (λ b. b < 2) front 0 (λ k l.
         let k< : k < 1 + g = omega arith in

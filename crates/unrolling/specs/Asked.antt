@@ -1,6 +1,6 @@
 -- The clauses of a question of an induction, and what the questions decide.
 use Rattle.std.specs.Prelude.{ℕ, false, List, [], ◌∷◌, slice_index, slice_index_or}
-use Rattle.std.specs.List.{AllByRecursion as All}
+use Rattle.std.specs.List.{AllByRecursion}
 use Rattle.resolution.specs.Clauses.{denial, Unsat}
 use Rattle.machine.specs.Meaning.{Meaning}
 use Rattle.machine.specs.Runs.{Kept}
@@ -30,6 +30,6 @@ assumption_at m o Last j = denial (moved m j (slice_index m.rule o)) ∷ []
 
 -- no question of the induction over k rows has an answer exactly where it holds, and where it holds the rule is kept
 pub record Decides (m : Meaning) (o k : ℕ) : Type 0 where
-  pub sound : All Unsat (questions_of_induction m o k) → Inductive m o k
-  pub complete : Inductive m o k → All Unsat (questions_of_induction m o k)
+  pub sound : AllByRecursion Unsat (questions_of_induction m o k) → Inductive m o k
+  pub complete : Inductive m o k → AllByRecursion Unsat (questions_of_induction m o k)
   pub kept : Inductive m o k → Kept m o

@@ -1,5 +1,5 @@
 use Rattle.std.proofs.Common.{ℕ, ◌<◌, List, ◌++◌, vec_items, sym, ap, ◌∙◌, subst, arith, rules}
-use Rattle.std.specs.List.{AllByRecursion as All}
+use Rattle.std.specs.List.{AllByRecursion}
 use Rattle.certificate.specs.declared.record.Record.{Record}
 use Rattle.certificate.specs.Records.{encode}
 use Rattle.certificate.proofs.Codes.{longer}
@@ -23,7 +23,7 @@ returns-then-not-rises c =
     let l = c.in-Literal.literal in
     let is = c.in-Some.ensures.exact.0 ∙ ap (λ (r : Record). encode r ++ c.next.new.self.rest.now) c.in-Literal.is in
     let same = clause_slice _ _ _ _ c.loop-record.invariant.1 c.as_slice.result.now c.len-start.result c.as_slice.ensures.value (search rules) in
-    read_fallen _ _ _ _ c.loop-record.invariant.1 l _ is (subst (λ (x : List ℕ). All (λ y. y < l) x → ⊥) same c.if-not-rises.ensures)
+    read_fallen _ _ _ _ c.loop-record.invariant.1 l _ is (subst (λ (x : List ℕ). AllByRecursion (λ y. y < l) x → ⊥) same c.if-not-rises.ensures)
 
 pub returns-in-ClauseEnd : goal.returns-in-ClauseEnd
 returns-in-ClauseEnd c =
@@ -39,7 +39,7 @@ loop-record-preserved c =
     let is = c.in-Some.ensures.exact.0 ∙ ap (λ (r : Record). encode r ++ c.next.new.self.rest.now) c.in-Literal.is in
     let same = clause_slice _ _ _ _ c.loop-record.invariant.1 c.as_slice.result.now c.len-start.result c.as_slice.ensures.value (search rules) in (
       omega (arith, c.push.ensures.lower_bound, c.loop-record.invariant.0),
-      begun_more _ _ _ _ c.loop-record.invariant.1 l _ is (vec_items c.push.new.self) c.in_ok-push-in-Literal.ensures.items (subst (All (λ y. y < l)) same c.if-not-rises.ensures),
+      begun_more _ _ _ _ c.loop-record.invariant.1 l _ is (vec_items c.push.new.self) c.in_ok-push-in-Literal.ensures.items (subst (AllByRecursion (λ y. y < l)) same c.if-not-rises.ensures),
     )
 
 pub loop-record-smaller : goal.loop-record-smaller

@@ -1,5 +1,5 @@
 use Rattle.std.proofs.Common.{take, sym, refl, subst}
-use Rattle.std.specs.List.{AllByRecursion as All}
+use Rattle.std.specs.List.{AllByRecursion}
 use Rattle.std.proofs.ByRecursion.{All-push, All-get_or}
 use Rattle.std.proofs.lemmas.List.{take_more, take_all}
 use Rattle.resolution.specs.Lists.{Proper}
@@ -12,7 +12,7 @@ returns-then-not-proper c all =
 
 pub loop-span-preserved : goal.loop-span-preserved
 loop-span-preserved c =
-    subst (All (Proper c.args.literals.now)) (sym (take_more c.args.spans.now c.loop-span.span-index (record { start = 0; length = 0 }) c.loop-span-test.true))
+    subst (AllByRecursion (Proper c.args.literals.now)) (sym (take_more c.args.spans.now c.loop-span.span-index (record { start = 0; length = 0 }) c.loop-span-test.true))
     (All-push (Proper c.args.literals.now) (take c.loop-span.span-index c.args.spans.now) _ c.loop-span.invariant c.if-not-proper.ensures)
 
 pub returns : goal.returns
@@ -20,5 +20,5 @@ returns c = (
   refl,
   refl,
   proper_rising c.args.literals.now c.args.spans.now
-      (subst (All (Proper c.args.literals.now)) (take_all c.loop-span.span-index c.args.spans.now c.loop-span-test.false) c.loop-span.invariant),
+      (subst (AllByRecursion (Proper c.args.literals.now)) (take_all c.loop-span.span-index c.args.spans.now c.loop-span-test.false) c.loop-span.invariant),
 )

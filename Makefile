@@ -1,15 +1,18 @@
 # demo: build the program and run it on the samples; test: prove and test everything; bench: compare with plain Rust.
-.PHONY: demo test bench
+.PHONY: demo test bench program
 
-demo:
-	rt check ternbook
-	cd crates/ternbook/data && ../../../target/bin/ternbook calls
+# proves and builds the program, which stays as crates/ternbook/out/ternbook
+program:
+	cd crates/ternbook && rt run -- --help > /dev/null
+
+demo: program
+	cd crates/ternbook/data && ../out/ternbook calls
 
 test:
-	rt ci
+	tests/gate
+	$(MAKE) --silent program
 	tests/status
 	tests/must-not-build/run
 
-bench:
-	rt check ternbook
+bench: program
 	bench/run

@@ -9,7 +9,7 @@ use Rattle.machine.specs.Lists.{entry}
 use Rattle.machine.specs.Meaning.{Meaning, Lawful, lit}
 use Rattle.machine.specs.Rows.{bit, byte, bits, row_inputs, row_state, Filled, Fill}
 use Rattle.machine.proofs.Entries.{entry_at}
-use Rattle.machine.proofs.RowBits.{get_d_bits, bits_from, part_bits, lit_taken, byte_small}
+use Rattle.machine.proofs.RowBits.{get_or_bits, bits_from, part_bits, lit_taken, byte_small}
 use Rattle.certificate.specs.Area.{part, low}
 use Rattle.certificate.proofs.Codes.{some_same}
 
@@ -50,7 +50,7 @@ small_from row a n s h k l = omega (arith, h k l, byte_small (get_or s k false))
 
 -- a literal by the lowest bits
 pub low_lit : (row old : List ℕ) (l : ℕ) → get_or row (l / 2) 0 % 2 ≡ get_or old (l / 2) 0 → literal_true (low row) l ≡ lit (bits old) l
-low_lit row old l e = true_same (low row) (λ k. get_or (bits old) k false) l l refl (ap bit e ∙ sym (get_d_bits old (l / 2)))
+low_lit row old l e = true_same (low row) (λ k. get_or (bits old) k false) l l refl (ap bit e ∙ sym (get_or_bits old (l / 2)))
 
 pub small_low : (row : List ℕ) (k : ℕ) → get_or row k 0 < 2 → get_or row k 0 % 2 ≡ get_or row k 0
 small_low row k h = omega arith

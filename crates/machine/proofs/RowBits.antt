@@ -5,10 +5,10 @@ use Rattle.resolution.proofs.Settings.{true_same}
 use Rattle.machine.specs.Meaning.{lit}
 use Rattle.machine.specs.Rows.{bit, byte, bits}
 
-pub get_d_bits : (bs : List ℕ) (k : ℕ) → get_or (bits bs) k false ≡ bit (get_or bs k 0)
-get_d_bits [] k = refl
-get_d_bits (b ∷ bs) zero = refl
-get_d_bits (b ∷ bs) (suc k) = get_d_bits bs k
+pub get_or_bits : (bs : List ℕ) (k : ℕ) → get_or (bits bs) k false ≡ bit (get_or bs k 0)
+get_or_bits [] k = refl
+get_or_bits (b ∷ bs) zero = refl
+get_or_bits (b ∷ bs) (suc k) = get_or_bits bs k
 
 pub bit_byte : (b : Bool) → bit (byte b) ≡ b
 bit_byte true = refl
@@ -35,7 +35,7 @@ lit_taken row n l h = ap (λ (w : List Bool). lit w l) (sym (take-map bit n row)
 pub bits_from : (bs : List ℕ) (w : List Bool) → length bs ≡ length w → ((k : ℕ) → k < length bs → get_or bs k 0 ≡ byte (get_or w k false)) → bits bs ≡ w
 bits_from bs w n h =
     ext_get_or false (bits bs) w (length-map bs bit ∙ n)
-    (λ k l. let k< : k < length bs = omega (arith, length-map bs bit) in get_d_bits bs k ∙ ap bit (h k k<) ∙ bit_byte (get_or w k false))
+    (λ k l. let k< : k < length bs = omega (arith, length-map bs bit) in get_or_bits bs k ∙ ap bit (h k k<) ∙ bit_byte (get_or w k false))
 
 -- the bits of a part
 pub part_bits : (row : List ℕ) (a n : ℕ) → take n (drop a (bits row)) ≡ bits (take n (drop a row))

@@ -4,7 +4,7 @@ use Rattle.refusal.specs.declared.faults.CertificateFault.{CertificateFault}
 use Rattle.stack.specs.declared.spans.Span.{Span}
 use Rattle.resolution.specs.declared.refutation.Refutation.{Refutation}
 use Rattle.resolution.specs.Clauses.{Unsat}
-use Rattle.resolution.specs.States.{own, Follows, Goes_on}
+use Rattle.resolution.specs.States.{own, Follows, GoesOn}
 use Rattle.refuting.specs.declared.Turn.{Turn}
 use Rattle.refuting.specs.declared.Turn.TheVariants.{Next, End}
 use Rattle.refuting.specs.Reading.{Move, made, ended}
@@ -14,7 +14,7 @@ pub record Made (list : List (List ℕ)) (t u : Refutation) (ls ms : List ℕ) (
   pub answer : r ≡ Ok Next
   pub floor : u.floor ≡ t.floor
   pub first : u.first ≡ t.first
-  pub goes_on : Goes_on t u ls ms ps qs (own t ls ps ++ c ∷ [])
+  pub goes_on : GoesOn t u ls ms ps qs (own t ls ps ++ c ∷ [])
   pub follows : Follows list (own t ls ps) → Follows list (own u ms qs)
 
 -- the end: the areas stay, and the list is refuted

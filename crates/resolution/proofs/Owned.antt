@@ -10,7 +10,7 @@ use Rattle.stack.proofs.Places.{placed_one, length_placed, take_placed, below_pl
 use Rattle.resolution.specs.Lists.{numbered_clause}
 use Rattle.resolution.specs.declared.refutation.Refutation.{Refutation}
 use Rattle.resolution.specs.Outcomes.{admitted}
-use Rattle.resolution.specs.States.{own_of, own, grown, written, noted, fresh, entries, Standing, Goes_on}
+use Rattle.resolution.specs.States.{own_of, own, grown, written, noted, fresh, entries, Standing, GoesOn}
 
 module _ (n a m : ℕ) (ls : List ℕ) (ps : List Span) where
   pub length_own : length (own_of n a m ls ps) ≡ min (m - a) (length ps - a)
@@ -90,7 +90,7 @@ module _ (t : Refutation) (ls : List ℕ) (ps : List Span) (c : List ℕ) (s : S
         used = let u = s.used in let v = ap entries grown_clauses in omega arith;
       }
 
-  pub grows : Goes_on t (grown t (Ok c)) ls (written t ls (Ok c)) ps (noted t ps (Ok c)) (own t ls ps ++ c ∷ [])
+  pub grows : GoesOn t (grown t (Ok c)) ls (written t ls (Ok c)) ps (noted t ps (Ok c)) (own t ls ps ++ c ∷ [])
   grows =
       let u = s.used in
       record {

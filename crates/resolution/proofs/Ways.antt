@@ -12,7 +12,7 @@ use Rattle.resolution.specs.Clauses.{denial, Rising, Unsat}
 use Rattle.resolution.specs.Lists.{numbered_clause}
 use Rattle.resolution.specs.Resolvents.{resolvent, contains}
 use Rattle.resolution.specs.Outcomes.{admitted, fits, takes, resolves, numbered, added, ends}
-use Rattle.resolution.specs.States.{own, ended, grown, written, noted, Standing, Implied, Follows, Goes_on, Steps, Carries}
+use Rattle.resolution.specs.States.{own, ended, grown, written, noted, Standing, Implied, Follows, GoesOn, Steps, Carries}
 use Rattle.resolution.proofs.Laws.{empty_unsat}
 use Rattle.resolution.proofs.Owned.{grows}
 
@@ -117,11 +117,11 @@ same_as list t u ls ms ps eu em = subst (λ z. Carries list (own t ls ps) (own u
 module _ (t u : Refutation) (ls ms : List ℕ) (ps qs : List Span) (c : List ℕ)
     (eu : u ≡ grown t (Ok c)) (em : ms ≡ written t ls (Ok c)) (eq : qs ≡ noted t ps (Ok c))
     (h : t.literals.used + length c ≤ length ls) (k : t.spans.used < length ps) where
-  makes : Standing t ls ps → Goes_on t u ls ms ps qs (own t ls ps ++ c ∷ [])
+  makes : Standing t ls ps → GoesOn t u ls ms ps qs (own t ls ps ++ c ∷ [])
   makes s =
-      subst (λ z. Goes_on t u ls ms ps z (own t ls ps ++ c ∷ [])) (sym eq)
-      (subst (λ z. Goes_on t u ls z ps (noted t ps (Ok c)) (own t ls ps ++ c ∷ [])) (sym em)
-      (subst (λ z. Goes_on t z ls (written t ls (Ok c)) ps (noted t ps (Ok c)) (own t ls ps ++ c ∷ [])) (sym eu) (grows t ls ps c s h k)))
+      subst (λ z. GoesOn t u ls ms ps z (own t ls ps ++ c ∷ [])) (sym eq)
+      (subst (λ z. GoesOn t u ls z ps (noted t ps (Ok c)) (own t ls ps ++ c ∷ [])) (sym em)
+      (subst (λ z. GoesOn t z ls (written t ls (Ok c)) ps (noted t ps (Ok c)) (own t ls ps ++ c ∷ [])) (sym eu) (grows t ls ps c s h k)))
 
   pub made : (o : Result (List ℕ) RefutationFault) (r : Result ℕ RefutationFault) → o ≡ Ok c → r ≡ Ok (length (own t ls ps)) → Steps t u ls ms ps qs o r
   made o r w er =
@@ -130,7 +130,7 @@ module _ (t u : Refutation) (ls ms : List ℕ) (ps qs : List Span) (c : List ℕ
         refutation = eu ∙ ap (grown t) (sym w);
         literals = em ∙ ap (written t ls) (sym w);
         spans = eq ∙ ap (noted t ps) (sym w);
-        goes_on = λ s. subst (Goes_on t u ls ms ps qs) (ap (added (own t ls ps)) (sym w)) (makes s);
+        goes_on = λ s. subst (GoesOn t u ls ms ps qs) (ap (added (own t ls ps)) (sym w)) (makes s);
       }
 
   pub carried : (list : List (List ℕ)) → (Follows list (own t ls ps) → Implied list c) → (AllByRecursion Rising list → AllByRecursion Rising (own t ls ps) → Rising c) → Standing t ls ps → Carries list (own t ls ps) (own u ms qs)

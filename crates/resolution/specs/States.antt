@@ -94,7 +94,7 @@ abbrev pub Follows : List (List ℕ) → List (List ℕ) → Type 0
 Follows list clauses = AllByRecursion (Implied list) clauses
 
 -- how a step goes on, where the areas are as the last call left them
-pub record Goes_on (t u : Refutation) (ls ms : List ℕ) (ps qs : List Span) (after : List (List ℕ)) : Type 0 where
+pub record GoesOn (t u : Refutation) (ls ms : List ℕ) (ps qs : List Span) (after : List (List ℕ)) : Type 0 where
   pub stands : Standing u ms qs
   pub clauses : own u ms qs ≡ after
   pub kept : Kept t ls ms ps qs
@@ -106,7 +106,7 @@ pub record Steps (t u : Refutation) (ls ms : List ℕ) (ps qs : List Span) (o : 
   pub refutation : u ≡ grown t o
   pub literals : ms ≡ written t ls o
   pub spans : qs ≡ noted t ps o
-  pub goes_on : Standing t ls ps → Goes_on t u ls ms ps qs (added (own t ls ps) o)
+  pub goes_on : Standing t ls ps → GoesOn t u ls ms ps qs (added (own t ls ps) o)
 
 -- what clauses have in common with those after a step: they follow from the list; they rise
 pub record Carries (list before after : List (List ℕ)) : Type 0 where

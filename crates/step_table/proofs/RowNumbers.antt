@@ -2,7 +2,7 @@
 use Rattle.std.proofs.Common.{◌≡◌, ℕ, suc, ◌+◌, ◌-◌, ◌*◌, ◌^◌, ◌<◌, ◌≤◌, Bool, false, List, ◌∷◌, length, get_or, take, drop, ap, ◌∙◌, arith, pow_mono}
 use Rattle.std.proofs.lemmas.List.{length-take-le, length-drop, length-map, drop_more}
 use Rattle.machine.specs.Rows.{bit, bits}
-use Rattle.machine.proofs.RowBits.{get_d_bits, byte_bit}
+use Rattle.machine.proofs.RowBits.{get_or_bits, byte_bit}
 use Rattle.table_format.specs.Stepping.{number}
 use Rattle.table_format.proofs.Numbers.{number_below}
 
@@ -20,7 +20,7 @@ number_more row n k k' l e room small =
     let more : bits_from row n k' ≡ bit (get_or row (1 + k') 0) ∷ bits_from row n k =
     ap (λ (j : ℕ). take j (drop (1 + k') (bits row))) size ∙ ap (take (suc (n - k))) (drop_more (bits row) (1 + k') false in')
     ∙ ap (λ (j : ℕ). get_or (bits row) (1 + k') false ∷ take (n - k) (drop j (bits row))) on
-    ∙ ap (λ (b : Bool). b ∷ bits_from row n k) (get_d_bits row (1 + k')) in
+    ∙ ap (λ (b : Bool). b ∷ bits_from row n k) (get_or_bits row (1 + k')) in
     omega (arith, ap number more, byte_bit (get_or row (1 + k') 0) small)
 
 -- the number of at most 10 bits is below 1024

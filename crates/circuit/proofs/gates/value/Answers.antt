@@ -3,7 +3,7 @@ use lib.Bits.{bit_xor}
 use Rattle.std.proofs.lemmas.Nat.{and_mask}
 use Rattle.resolution.specs.Clauses.{literal_true}
 use Rattle.machine.specs.Rows.{bit, byte}
-use Rattle.machine.proofs.RowBits.{get_d_bits}
+use Rattle.machine.proofs.RowBits.{get_or_bits}
 use Rattle.circuit.proofs.gates.value.Goals as goal
 
 -- a byte x of a variable, turned where the literal is odd
@@ -22,4 +22,4 @@ returns c =
     let row = c.args.row.now in
     let l = c.args.literal in
     ap (bit_xor (get_or row (l / 2) 0)) (and_mask l 1) ∙ turned (get_or row (l / 2) 0) (l % 2) c.requires.1 (omega arith)
-    ∙ ap (λ (b : Bool). byte (cond (eqb (l % 2) 0) b (not b))) (sym (get_d_bits row (l / 2)))
+    ∙ ap (λ (b : Bool). byte (cond (eqb (l % 2) 0) b (not b))) (sym (get_or_bits row (l / 2)))

@@ -1,4 +1,3 @@
 pub mod CutAt
 pub mod Words
 pub mod Verbs
-pub mod Blank

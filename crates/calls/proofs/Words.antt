@@ -6,7 +6,7 @@ use Rattle.std.proofs.lemmas.Fmt.{decimal_nonempty, decimal_by_steps}
 use Rattle.decimal.specs.Number.{Number}
 use Rattle.calls.specs.declared.answer.Lengths.{Lengths}
 use Rattle.calls.specs.Cuts.{before, after}
-use Rattle.calls.specs.Lines.{Name, Lendable, lengths_text}
+use Rattle.calls.specs.Lines.{Lendable, lengths_text}
 use Rattle.calls.proofs.CutAt.{uncut}
 
 -- s stands nowhere in xs
@@ -76,10 +76,6 @@ front_most s (x ∷ xs) = cond_both (eqb x s) [] (x ∷ before s xs) (λ (ys : L
 front_less : (s : ℕ) (xs : List ℕ) → 0 < length (after s xs) → length (before s xs) < length xs
 front_less s xs h =
     ⊎_elim (λ l. l) (λ l. absurd (omega (arith, ap length (uncut s xs (whole_lacks s xs l)).1))) (cases_lt (length (before s xs)) (length xs))
-
--- a name is its own front
-pub name_whole : (f : List ℕ) → Name f → length (before 32 f) ≡ length f
-name_whole f n = ap length (uncut 32 f n.1).0
 
 -- a number in decimal has no space
 pub decimal_lacks : (n : ℕ) → n < 2 ^ 32 → Lacks 32 (decimal n)

@@ -1,27 +1,13 @@
 -- The text of each answer.
-use Rattle.std.specs.Prelude.{ℕ, zero, suc, min, Bool, true, false, List, [], ◌++◌, codes, decimal, slice_index_or}
+use Rattle.std.specs.Prelude.{ℕ, Bool, true, false, List, ◌++◌, codes, decimal}
 use Rattle.std.specs.List.{flat_map}
-use Rattle.refusal.specs.declared.faults.Layer.{Layer}
-use Rattle.refusal.specs.declared.faults.Layer.TheVariants as layer
-use Rattle.refusal.specs.declared.faults.Told.{Told}
-use Rattle.checking.specs.declared.Claim.{Claim}
-use Rattle.checking.specs.declared.Claim.TheVariants as claim
-use Rattle.docket.specs.declared.book.Account.{Account}
-use Rattle.docket.specs.declared.book.Standing.{Standing}
-use Rattle.docket.specs.declared.book.Standing.TheVariants as standing
-use Rattle.docket.specs.declared.book.Tally.{Tally}
+use Rattle.refusal.specs.Texts.{told_text}
+use Rattle.certificate.specs.Claims.{claim_text}
+use Rattle.docket.specs.Texts.{standing_text, tally_text, account_text}
 use Rattle.calls.specs.declared.answer.Counts.{Counts}
 use Rattle.calls.specs.declared.answer.Lengths.{Lengths}
 use Rattle.calls.specs.declared.answer.Answer.{Answer}
 use Rattle.calls.specs.declared.answer.Answer.TheVariants.{Opened, Lent, Broken, Question, NoQuestions, NoSuchQuestion, Refuted, NotAClauseList, NotARefutation, Accepted, Found, Counted, Struck, Listed, Refused, NoMachine, CannotRead, NotUnderstood}
-
--- a layer by its name
-abbrev pub layer_text : Layer → List ℕ
-layer_text layer.Text = codes "text"
-layer_text layer.Table = codes "table"
-layer_text layer.Docket = codes "docket"
-layer_text layer.Certificate = codes "certificate"
-layer_text layer.Refutation = codes "refutation"
 
 -- the counts of a machine
 abbrev pub counts_text : Counts → List ℕ
@@ -33,44 +19,9 @@ counts_text c =
 abbrev pub areas_text : Lengths → List ℕ
 areas_text l = decimal l.bytes ++ (codes " bytes, " ++ (decimal l.literals ++ (codes " literals, " ++ (decimal l.places ++ codes " places"))))
 
--- what a refusal tells
-abbrev pub told_text : Told → List ℕ
-told_text t =
-    decimal t.number ++ (codes " " ++ (layer_text t.layer ++ (codes ", offset " ++ (decimal t.offset ++ (codes ", question " ++ decimal t.question)))))
-
 -- a clause on a line of its own: its number, then its literals
 abbrev pub clause_text : ℕ → List ℕ → List ℕ
 clause_text number literals = codes "  " ++ (decimal number ++ (codes ":" ++ flat_map (λ l. codes " " ++ decimal l) literals))
-
--- a claim by its name
-abbrev pub claim_text : Claim → List ℕ
-claim_text claim.Trace = codes "trace"
-claim_text claim.Induction = codes "induction"
-claim_text claim.Counterexample = codes "counterexample"
-
--- a standing by its name
-abbrev pub standing_text : Standing → List ℕ
-standing_text standing.Open = codes "open"
-standing_text standing.Kept = codes "kept"
-standing_text standing.Broken = codes "broken"
-
--- the counts of a docket
-abbrev pub tally_text : Tally → List ℕ
-tally_text t =
-    codes "handed in " ++ (decimal t.handed_in ++ (codes ", accepted " ++ (decimal t.accepted ++ (codes ", refused " ++ (decimal t.refused ++ (codes ", struck " ++ decimal t.struck))))))
-
--- a rule with its standing
-abbrev pub rule_text : List Standing → ℕ → List ℕ
-rule_text standings rule = decimal rule ++ (codes " " ++ (standing_text (slice_index_or standings rule standing.Open) ++ codes "; "))
-
--- the rules below a number, each with its standing
-abbrev pub rules_text : List Standing → ℕ → List ℕ
-rules_text standings zero = []
-rules_text standings (suc n) = rules_text standings n ++ rule_text standings n
-
--- every rule that a docket can have, then the counts
-abbrev pub account_text : Account → List ℕ
-account_text a = rules_text a.standings (min a.rules 32) ++ tally_text a.tally
 
 -- each answer, with its numbers in decimal
 abbrev pub answer_text : Answer → List ℕ

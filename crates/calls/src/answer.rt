@@ -1,11 +1,12 @@
 // What a call answers, as the program prints it.
 ghost use Rattle.std.specs.Prelude.{◌≡◌, Some};
-ghost use Rattle.calls.specs.Answers.{layer_text, counts_text, told_text, areas_text, answer_text, is_carried_out};
+ghost use Rattle.refusal.specs.Numbers.{told};
+ghost use Rattle.calls.specs.declared.answer.Answer.TheVariants.{Refused};
+ghost use Rattle.calls.specs.Answers.{counts_text, areas_text, answer_text, is_carried_out};
 
-use crate::dockets::{AccountText, TallyText, claim_name, standing_name};
-use checking::Claim;
+use certificate::Claim;
 use docket::{Account, Standing, Tally};
-use refusal::{Layer, Told};
+use refusal::{Refusal, Told};
 use std::fmt;
 
 // The counts of an opened machine.
@@ -54,27 +55,19 @@ impl Answer<'_> {
     pub fn carried_out(&self) -> bool
         ensures { result ≡ is_carried_out self.now }
     {
-        match self {
-            Answer::Opened(_) | Answer::Lent(_) | Answer::Broken { .. } => true,
-            Answer::Question { .. } | Answer::NoQuestions | Answer::NoSuchQuestion => true,
-            Answer::Refuted { .. } | Answer::NotAClauseList | Answer::NotARefutation => true,
-            Answer::Accepted { .. } | Answer::Found(_) | Answer::Counted(_) => true,
-            Answer::Struck | Answer::Listed(_) | Answer::Refused(_) => true,
-            Answer::NoMachine | Answer::CannotRead(_) | Answer::NotUnderstood => false,
-        }
+        !matches!(
+            self,
+            Answer::NoMachine | Answer::CannotRead(_) | Answer::NotUnderstood
+        )
     }
 }
 
-// A layer by its name.
-fn layer_name(layer: Layer) -> &'static str
-    ensures { result.now ≡ layer_text layer }
-{
-    match layer {
-        Layer::Text => "text",
-        Layer::Table => "table",
-        Layer::Docket => "docket",
-        Layer::Certificate => "certificate",
-        Layer::Refutation => "refutation",
+// The answer to a call that is refused.
+impl From<Refusal> for Answer<'_> {
+    ghost from_gives = { λ refusal answer. answer ≡ Refused (told refusal) };
+
+    fn from(refusal: Refusal) -> Self {
+        Answer::Refused(refusal.told())
     }
 }
 
@@ -109,25 +102,6 @@ impl fmt::Display for Lengths {
     }
 }
 
-// What a refusal tells.
-#[derive(Clone, Copy)]
-struct ToldText(Told);
-
-impl fmt::Display for ToldText {
-    ghost output = { λ x. Some (told_text x.0) };
-
-    fn fmt<W: fmt::Write>(&self, f: &mut fmt::Formatter<W>) -> fmt::Result {
-        let Told {
-            number,
-            layer,
-            offset,
-            question,
-        } = self.0;
-        let layer = layer_name(layer);
-        write!(f, "{number} {layer}, offset {offset}, question {question}")
-    }
-}
-
 impl fmt::Display for Answer<'_> {
     ghost output = { λ x. Some (answer_text x) };
 
@@ -142,15 +116,12 @@ impl fmt::Display for Answer<'_> {
             Answer::Refuted { records } => write!(f, "refuted, {records} records"),
             Answer::NotAClauseList => write!(f, "not a clause list"),
             Answer::NotARefutation => write!(f, "not a refutation"),
-            Answer::Accepted { claim, records } => {
-                let claim = claim_name(*claim);
-                write!(f, "accepted {claim}, {records} records")
-            }
-            Answer::Found(standing) => write!(f, "{}", standing_name(*standing)),
-            Answer::Counted(tally) => write!(f, "{}", TallyText(*tally)),
+            Answer::Accepted { claim, records } => write!(f, "accepted {claim}, {records} records"),
+            Answer::Found(standing) => write!(f, "{standing}"),
+            Answer::Counted(tally) => write!(f, "{tally}"),
             Answer::Struck => write!(f, "struck"),
-            Answer::Listed(account) => write!(f, "{}", AccountText(*account)),
-            Answer::Refused(told) => write!(f, "refused {}", ToldText(*told)),
+            Answer::Listed(account) => write!(f, "{account}"),
+            Answer::Refused(told) => write!(f, "refused {told}"),
             Answer::NoMachine => write!(f, "no machine"),
             Answer::CannotRead(file) => write!(f, "cannot read {file}"),
             Answer::NotUnderstood => write!(f, "not understood"),

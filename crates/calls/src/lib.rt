@@ -5,7 +5,6 @@ mod answer;
 mod call;
 mod clause_line;
 mod cuts;
-mod dockets;
 mod lines;
 mod text;
 

@@ -14,22 +14,14 @@ fn number_word(word: &[u8]) -> Option<u32>
     ensures { MatchOption result ((n : ℕ) → n < 2 ^ 32 → word.now ≢ decimal n) (λ n. word.now ≡ decimal n) }
 {
     let (value, size) = number(word, 0)?;
-    if size == word.len() {
-        Some(value)
-    } else {
-        None
-    }
+    (size == word.len()).then_some(value)
 }
 
-// A file's name: a word that is not empty.
+// A file's name: a word that is not empty and has no space.
 fn name(word: &[u8]) -> Option<&[u8]>
     ensures { MatchOption result (Name word.now → ⊥) (λ f. (f.now ≡ word.now) × Name word.now) }
 {
-    let (first, _) = cut(word, b' ');
-    if word.is_empty() || first.len() < word.len() {
-        return None;
-    }
-    Some(word)
+    (!word.is_empty() && !word.contains(&b' ')).then_some(word)
 }
 
 // Three lengths that the program lends.
@@ -77,35 +69,6 @@ fn verb(word: &[u8]) -> Option<Verb>
     }
 }
 
-// A call of one file that opens a circuit.
-fn circuit(rest: &[u8]) -> Option<Call<'_>>
-    ensures { ReadAs verb.Circuit rest.now result }
-{
-    Some(Call::Circuit { file: name(rest)? })
-}
-
-// A call of one file that opens a step table.
-fn table(rest: &[u8]) -> Option<Call<'_>>
-    ensures { ReadAs verb.Table rest.now result }
-{
-    Some(Call::Table { file: name(rest)? })
-}
-
-// A call of three lengths.
-fn areas(rest: &[u8]) -> Option<Call<'_>>
-    ensures { ReadAs verb.Areas rest.now result }
-{
-    Some(Call::Areas(lengths(rest)?))
-}
-
-// A call that checks a counterexample for a rule.
-fn replay(rest: &[u8]) -> Option<Call<'_>>
-    ensures { ReadAs verb.Replay rest.now result }
-{
-    let (rule, file) = rule_and_file(rest)?;
-    Some(Call::Replay { rule, file })
-}
-
 // A call of a rule, a file and a number.
 fn question(rest: &[u8]) -> Option<Call<'_>>
     ensures { ReadAs verb.Question rest.now result }
@@ -130,31 +93,6 @@ fn refute(rest: &[u8]) -> Option<Call<'_>>
     })
 }
 
-// A call that hands in a certificate for a rule.
-fn hand(rest: &[u8]) -> Option<Call<'_>>
-    ensures { ReadAs verb.Hand rest.now result }
-{
-    let (rule, file) = rule_and_file(rest.strip_prefix(b"in ")?)?;
-    Some(Call::HandIn { rule, file })
-}
-
-// A call that asks for the standing of a rule.
-fn look(rest: &[u8]) -> Option<Call<'_>>
-    ensures { ReadAs verb.Look rest.now result }
-{
-    let rule = number_word(rest.strip_prefix(b"up ")?)?;
-    Some(Call::LookUp { rule })
-}
-
-// A call that makes a rule open again.
-fn strike(rest: &[u8]) -> Option<Call<'_>>
-    ensures { ReadAs verb.Strike rest.now result }
-{
-    Some(Call::Strike {
-        rule: number_word(rest)?,
-    })
-}
-
 // The call of a verb that stands alone on its line.
 fn bare<'a>(found: Verb) -> Option<Call<'a>>
     ensures { result ≡ bare_call found }
@@ -171,15 +109,27 @@ fn with_rest(found: Verb, rest: &[u8]) -> Option<Call<'_>>
     ensures { Read (followed found rest.now) result }
 {
     match found {
-        Verb::Circuit => circuit(rest),
-        Verb::Table => table(rest),
-        Verb::Areas => areas(rest),
-        Verb::Replay => replay(rest),
+        Verb::Circuit => Some(Call::Circuit { file: name(rest)? }),
+        Verb::Table => Some(Call::Table { file: name(rest)? }),
+        Verb::Areas => Some(Call::Areas(lengths(rest)?)),
+        Verb::Replay => {
+            let (rule, file) = rule_and_file(rest)?;
+            Some(Call::Replay { rule, file })
+        }
         Verb::Question => question(rest),
         Verb::Refute => refute(rest),
-        Verb::Hand => hand(rest),
-        Verb::Look => look(rest),
-        Verb::Strike => strike(rest),
+        Verb::Hand => {
+            let (rule, file) = rule_and_file(rest.strip_prefix(b"in ")?)?;
+            Some(Call::HandIn { rule, file })
+        }
+        Verb::Look => {
+            let rule = number_word(rest.strip_prefix(b"up ")?)?;
+            Some(Call::LookUp { rule })
+        }
+        Verb::Strike => {
+            let rule = number_word(rest)?;
+            Some(Call::Strike { rule })
+        }
         Verb::Tally | Verb::Account => None,
     }
 }

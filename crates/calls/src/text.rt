@@ -1,5 +1,6 @@
 // The lines of a text of calls.
-ghost use Rattle.std.specs.Prelude.{◌≡◌, ◌<◌, [], length, MatchOption, OnSome};
+ghost use Rattle.std.specs.Prelude.{◌≡◌, [], length, MatchOption};
+ghost use Rattle.std.specs.Iterator.{at_most};
 ghost use Rattle.calls.specs.Cuts.{before, after, shorn};
 ghost use Rattle.calls.specs.Text.{blank, passed_over};
 
@@ -15,10 +16,7 @@ pub struct Lines<'a> {
 fn shear(line: &[u8]) -> &[u8]
     ensures { result.now ≡ shorn line.now }
 {
-    if line.len() > 0 && line[line.len() - 1] == b'\r' {
-        return &line[0..line.len() - 1];
-    }
-    line
+    line.strip_suffix(b"\r").unwrap_or(line)
 }
 
 impl<'a> Lines<'a> {
@@ -27,13 +25,17 @@ impl<'a> Lines<'a> {
     {
         Lines { rest: text }
     }
+}
 
-    // The next line without its end, or none where the text is used up.
-    pub fn next(&mut self) -> Option<&'a [u8]>
-        ensures line { MatchOption result (self.old.rest.now ≡ []) (λ l. l.now ≡ shorn (before 10 self.old.rest.now)) }
-        ensures rest { self.new.rest.now ≡ after 10 self.old.rest.now }
-        ensures less { OnSome result (length self.new.rest.now < length self.old.rest.now) }
-    {
+// The lines without their ends, until the text is used up.
+impl<'a> Iterator for Lines<'a> {
+    type Item = &'a [u8];
+
+    ghost next_gives = { λ s r t. MatchOption r (s.rest.now ≡ []) (λ l. l.now ≡ shorn (before 10 s.rest.now)) × (t.rest.now ≡ after 10 s.rest.now) };
+
+    ghost remaining = { λ s. at_most (length s.rest.now) };
+
+    fn next(&mut self) -> Option<&'a [u8]> {
         if self.rest.is_empty() {
             return None;
         }
@@ -47,20 +49,12 @@ impl<'a> Lines<'a> {
 fn is_blank(line: &[u8]) -> bool
     ensures { result ≡ blank line.now }
 {
-    for byte in line {
-        if *byte != b' ' && *byte != b'\t' {
-            return false;
-        }
-    }
-    true
+    line.iter().all(|byte| matches!(byte, b' ' | b'\t'))
 }
 
 // A line that is no call: blank, or one that begins with `#`.
 pub fn is_passed_over(line: &[u8]) -> bool
     ensures { result ≡ passed_over line.now }
 {
-    if line.len() > 0 && line[0] == b'#' {
-        return true;
-    }
-    is_blank(line)
+    line.starts_with(b"#") || is_blank(line)
 }

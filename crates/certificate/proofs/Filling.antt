@@ -1,5 +1,5 @@
 -- Rows in the byte area: single bytes, the parts they make, and the fit.
-use Rattle.std.proofs.Common.{◌≡◌, ℕ, ◌+◌, ◌/◌, ◌%◌, ◌<◌, ◌≤◌, Bool, true, false, ◌≢◌, List, length, get_or, take, drop, set, is_some, Some, Ok, Option, Result, sym, refl, ap, ◌∙◌, subst, arith, below_more}
+use Rattle.std.proofs.Common.{◌≡◌, ℕ, ◌+◌, ◌-◌, ◌/◌, ◌%◌, ◌<◌, ◌≤◌, Bool, true, false, ◌≢◌, List, length, get_or, take, drop, set, is_some, Some, Ok, Option, Result, sym, refl, ap, ◌∙◌, subst, arith, below_more}
 use mir.Val.{bool_byte}
 use Rattle.std.proofs.lemmas.List.{length-take, length-drop, length-map, get_or-take, get_or-drop, get_or-map, get_or-set_same, get_or-set_other}
 use Rattle.refusal.specs.declared.faults.DocketFault.{DocketFault}
@@ -19,6 +19,10 @@ there xs i d r l e = ap is_some (e ∙ entry_at xs i d l)
 
 pub got : {A : Type 0} (xs : List A) (i : ℕ) (d : A) (r : Option A) (x : A) → i < length xs → r ≡ entry xs i → r ≡ Some x → x ≡ get_or xs i d
 got xs i d r x l e f = some_same (sym f ∙ e ∙ entry_at xs i d l)
+
+-- so many bytes from a place on
+pub span_size : (row : List ℕ) (a n : ℕ) → a + n ≤ length row → length (take (a + n - a) (drop a row)) ≡ n
+span_size row a n h = omega (arith, length-take (a + n - a) (drop a row), length-drop a row)
 
 -- one byte more
 pub one_more : (P : ℕ → ℕ → Type 0) (row : List ℕ) (a p i v : ℕ) → p ≡ a + i → p < length row → P i v →

@@ -1,17 +1,14 @@
 -- What a record does at each phase, and what it leaves in the byte area.
-use Rattle.std.proofs.Common.{◌≡◌, ℕ, ◌+◌, ◌-◌, ◌<◌, ◌≤◌, Bool, cond, ◌≢◌, List, [], ◌∷◌, ◌++◌, length, get_or, take, drop, set, Ok, Err, sym, ap, ◌∙◌, ⊎_elim, arith}
-use Rattle.std.proofs.lemmas.List.{length-take, length-drop, length-map, map-append, take_more_set, drop-set-add, drop-set-lt, get_or-set_other}
+use Rattle.std.proofs.Common.{◌≡◌, ℕ, ◌+◌, ◌-◌, ◌<◌, ◌≤◌, Bool, cond, List, [], ◌∷◌, ◌++◌, length, get_or, take, drop, set, Ok, Err, sym, ap, ◌∙◌, ⊎_elim, arith}
+use Rattle.std.proofs.lemmas.List.{length-take, length-drop, length-map, map-append, take_more_set, drop-set-add, drop-set-lt}
 use Rattle.std.proofs.lemmas.Bool.{cases_lt}
 use Rattle.std.proofs.lemmas.Bool.Decides.{nat_tests}
 use Rattle.refusal.specs.declared.faults.CertificateFault.TheVariants.{OutOfPlace, WrongNumber, Unbroken}
 use Rattle.machine.specs.Meaning.{Meaning}
 use Rattle.machine.specs.Rows.{bit, bits, Fillable}
 use Rattle.machine.proofs.RowBits.{part_bits}
-use Rattle.certificate.specs.declared.phase.Phase.{Phase}
-use Rattle.certificate.specs.declared.record.Record.{Record}
 use Rattle.certificate.specs.Area.{part, SmallInputs, SmallState}
-use Rattle.certificate.specs.Steps.{in_row, closing, bit_set, row_ended, claimed, step}
-use Rattle.certificate.specs.Views.{view}
+use Rattle.certificate.specs.Steps.{in_row, closing, bit_set, row_ended, claimed}
 
 -- a bit
 pub bit_late : (m : Meaning) (b left : ℕ) (x s : List Bool) → m.inputs ≤ length x → bit_set m b left x s ≡ Err OutOfPlace
@@ -56,11 +53,6 @@ pub part_kept : (area : List ℕ) (a n i v : ℕ) → i < a → part a n (set ar
 part_kept area a n i v h =
     part_bits (set area i v) a n ∙ ap (λ (y : List ℕ). bits (take n y)) (drop-set-lt a area i v h) ∙ sym (part_bits area a n)
 
-pub state_kept : (m : Meaning) (area : List ℕ) (n v : ℕ) → n < m.inputs → SmallState m area → SmallState m (set area (1 + n) v)
-state_kept m area n v h s k l =
-    let ne : 1 + m.inputs + k ≢ 1 + n = λ q. omega arith in
-    omega (arith, get_or-set_other area (1 + n) (1 + m.inputs + k) v 0 ne, s k l)
-
 -- a row with all its bits can be filled
 pub fillable : (m : Meaning) (area : List ℕ) (n : ℕ) → m.variables ≤ length area → n ≡ m.inputs → SmallInputs n area → SmallState m area → Fillable m area
 fillable m area n room e x s = record {
@@ -71,7 +63,3 @@ fillable m area n room e x s = record {
       (λ (b : m.inputs ≤ k). let p : 1 + m.inputs + (k - m.inputs) ≡ 1 + k = omega arith in let q = ap (λ (i : ℕ). get_or area i 0) p in omega (arith, s (k - m.inputs) (omega arith)))
       (cases_lt k m.inputs);
 }
-
--- a step at a phase and a record that are known
-pub known : (m : Meaning) (o : ℕ) (area : List ℕ) (p q : Phase) (r t : Record) → p ≡ q → r ≡ t → step m o (view m p area) r ≡ step m o (view m q area) t
-known m o area p q r t e f = ap (step m o (view m p area)) f ∙ ap (λ (x : Phase). step m o (view m x area) t) e

@@ -7,3 +7,4 @@ pub mod Accepting
 pub mod Replaying
 pub mod Refusing
 pub mod Showing
+pub mod Nexts

@@ -1,11 +1,14 @@
 -- The loop over the records, turn by turn.
-use Rattle.std.proofs.Common.{◌≡◌, ℕ, zero, suc, ◌+◌, ◌-◌, ◌<◌, ◌≤◌, Bool, true, false, cond, List, length, Some, None, Ok, Err, Option, Result, sym, refl, ap, ◌∙◌, arith}
+use Rattle.std.proofs.Common.{◌≡◌, ℕ, zero, suc, ◌+◌, ◌-◌, ◌<◌, ◌≤◌, Bool, true, false, cond, List, length, Some, None, Ok, Err, Option, Result, sym, refl, ap, ◌∙◌, ◌≢◌, arith}
 use Rattle.refusal.specs.declared.faults.CertificateFault.{CertificateFault}
 use Rattle.refusal.specs.declared.faults.CertificateFault.TheVariants.{NoRecord}
 use Rattle.refusal.specs.declared.faults.CertificateRefusal.{CertificateRefusal}
 use Rattle.machine.specs.Meaning.{Meaning}
 use Rattle.certificate.specs.declared.record.Record.{Record}
+use Rattle.certificate.specs.declared.phase.Phase.{Phase}
+use Rattle.certificate.specs.declared.phase.Phase.TheVariants.{Opening, Row, Closing, Closed}
 use Rattle.certificate.specs.Records.{read}
+use Rattle.certificate.specs.Views.{view}
 use Rattle.certificate.specs.Steps.{View, opening, step}
 use Rattle.certificate.specs.Verdict.{is_closed, at_offset, finished, onward, by_record, verdict, judged}
 
@@ -34,6 +37,16 @@ module _ (m : Meaning) (o size f : ℕ) (rest : List ℕ) (k : ℕ) (v : View) w
       verdict m o size (suc f) rest k v ≡ verdict m o size f after (k + 1) w
   verdict_goes r after w e h s = turn false (Some (r, after)) e h
       ∙ ap (λ (y : Result View CertificateFault). onward y (size - length rest) (λ w. verdict m o size f after (k + 1) w)) s
+
+-- only the phase after the end is a closed one
+pub not_closed : (m : Meaning) (p : Phase) (area : List ℕ) → p ≢ Closed → is_closed (view m p area) ≡ false
+not_closed m Opening area n = refl
+not_closed m (Row left bits) area n = refl
+not_closed m Closing area n = refl
+not_closed m Closed area n = absurd (n refl)
+
+pub now_closed : (m : Meaning) (p : Phase) (area : List ℕ) → p ≡ Closed → is_closed (view m p area) ≡ true
+now_closed m p area e = ap (λ (x : Phase). is_closed (view m x area)) e
 
 -- the verdict from here is the verdict from the start
 pub record Going (m : Meaning) (o : ℕ) (bytes rest : List ℕ) (at k : ℕ) (v : View) : Type 0 where

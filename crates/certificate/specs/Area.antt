@@ -11,9 +11,10 @@ part from size row = take size (drop from (bits row))
 abbrev pub low : List ℕ → ℕ → Bool
 low row k = bit (slice_index row k % 2)
 
--- the bytes of the first inputs, and of the state, are 0 or 1
+-- the bytes of the first inputs are 0 or 1
 abbrev pub SmallInputs : ℕ → List ℕ → Type 0
 SmallInputs count row = (k : ℕ) → k < count → slice_index row (1 + k) < 2
 
+-- the bytes of the state are 0 or 1
 abbrev pub SmallState : Meaning → List ℕ → Type 0
 SmallState m row = (k : ℕ) → k < m.state_bits → slice_index row (1 + m.inputs + k) < 2

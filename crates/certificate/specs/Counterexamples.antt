@@ -14,11 +14,12 @@ use Rattle.certificate.specs.declared.record.Record.TheVariants.{Claim, Literal,
 use Rattle.certificate.specs.Records.{encode, encodes}
 use Rattle.certificate.specs.Steps.{View, opening, in_row, closing, closed}
 
--- the records of a row, a bit for each input and then its end, before what follows; and those of several rows
+-- the records of a row, a bit for each input and then its end, before what follows
 abbrev pub row_records : List Bool → List Record → List Record
 row_records [] after = RowEnd ∷ after
 row_records (b ∷ bits) after = Bit (byte b) ∷ row_records bits after
 
+-- the records of several rows, before what follows
 abbrev pub rows_records : List (List Bool) → List Record → List Record
 rows_records [] after = after
 rows_records (row ∷ rows) after = row_records row (rows_records rows after)

@@ -52,6 +52,7 @@ read bs =
     (cond (begins bs 6 13) (Some (Resolve (word bs 1) (word bs 5) (word bs 9), drop 13 bs))
     (cond (begins bs 8 2) (Some (Bit (slice_index bs 1), drop 2 bs)) (read_bare bs)))))
 
+-- the first record alone
 abbrev pub record_of : List ℕ → Option Record
 record_of bs = option_map (λ p. p.0) (read bs)
 

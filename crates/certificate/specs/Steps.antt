@@ -7,6 +7,7 @@ use Rattle.machine.specs.Rows.{bit}
 use Rattle.certificate.specs.declared.record.Record.{Record}
 use Rattle.certificate.specs.declared.record.Record.TheVariants.{Claim, Literal, ClauseEnd, FrameEnd, Take, Resolve, RefutationEnd, Bit, RowEnd, End}
 
+-- where the check of a counterexample stands
 pub data View : Type 0 where
   -- before the claim
   opening : View
@@ -17,19 +18,21 @@ pub data View : Type 0 where
   -- after the end
   closed : View
 
--- what may come at one place only: anywhere else it is out of place
+-- what may come before the claim only: anywhere else it is out of place
 abbrev pub at_opening : View → Result View CertificateFault → Result View CertificateFault
 at_opening opening there = there
 at_opening (in_row left bits state) there = Err OutOfPlace
 at_opening closing there = Err OutOfPlace
 at_opening closed there = Err OutOfPlace
 
+-- what may come in a row only
 abbrev pub at_row : View → (ℕ → List Bool → List Bool → Result View CertificateFault) → Result View CertificateFault
 at_row opening there = Err OutOfPlace
 at_row (in_row left bits state) there = there left bits state
 at_row closing there = Err OutOfPlace
 at_row closed there = Err OutOfPlace
 
+-- what may come after the last row only
 abbrev pub at_closing : View → Result View CertificateFault → Result View CertificateFault
 at_closing opening there = Err OutOfPlace
 at_closing (in_row left bits state) there = Err OutOfPlace
@@ -55,6 +58,7 @@ row_ended m rule left bits state =
     (cond (m.broken rule state bits) (Ok closing) (Err Unbroken)))
     (Err OutOfPlace)
 
+-- what a record does, or the fault of the first question that is answered no
 abbrev pub step : Meaning → ℕ → View → Record → Result View CertificateFault
 step m rule v (Claim claim n) = at_opening v (claimed m claim n)
 step m rule v (Literal l) = Err OutOfPlace

@@ -12,6 +12,7 @@ use Rattle.certificate.specs.declared.record.Record.{Record}
 use Rattle.certificate.specs.Records.{read}
 use Rattle.certificate.specs.Steps.{View, opening, in_row, closing, closed, step}
 
+-- is the end read?
 abbrev pub is_closed : View → Bool
 is_closed opening = false
 is_closed (in_row left bits state) = false
@@ -26,10 +27,12 @@ at_offset f at = record { fault = f; offset = at; question = 0 }
 abbrev pub finished : ℕ → ℕ → ℕ → Result ℕ CertificateRefusal
 finished left at records = cond (left == 0) (Ok records) (Err (at_offset OutOfPlace at))
 
+-- on from a step that is granted; else its fault at the record
 abbrev pub onward : Result View CertificateFault → ℕ → (View → Result ℕ CertificateRefusal) → Result ℕ CertificateRefusal
 onward (Ok w) at next = next w
 onward (Err f) at next = Err (at_offset f at)
 
+-- is there a record?
 abbrev pub by_record : Option (Record × List ℕ) → Result ℕ CertificateRefusal → (Record → List ℕ → Result ℕ CertificateRefusal) → Result ℕ CertificateRefusal
 by_record None none some = none
 by_record (Some p) none some = some p.0 p.1

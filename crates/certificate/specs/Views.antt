@@ -8,6 +8,7 @@ use Rattle.certificate.specs.declared.phase.Phase.TheVariants.{Opening, Row, Clo
 use Rattle.certificate.specs.Area.{part, SmallInputs, SmallState}
 use Rattle.certificate.specs.Steps.{View, opening, in_row, closing, closed}
 
+-- where the check stands, with the bits that the area holds
 abbrev pub view : Meaning → Phase → List ℕ → View
 view m Opening area = opening
 view m (Row left bits) area = in_row left (part 1 bits area) (row_state m area)
@@ -26,6 +27,7 @@ Steady m (Row left bits) area = (bits ≤ m.inputs) × SmallInputs bits area × 
 Steady m Closing area = Unit {0}
 Steady m Closed area = Unit {0}
 
+-- the same after a step that goes on
 abbrev pub Steadily : Meaning → Result Phase CertificateFault → List ℕ → Type 0
 Steadily m (Ok p) area = Steady m p area
 Steadily m (Err f) area = Unit {0}

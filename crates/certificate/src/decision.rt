@@ -1,12 +1,12 @@
 // What a record does: the next phase, or the fault of the first question that is answered no.
-ghost use Rattle.std.specs.Prelude.{◌≡◌, ◌+◌, ◌<◌, ◌≤◌, length, nat_lt};
+ghost use Rattle.std.specs.Prelude.{◌≡◌, ◌+◌, ◌<◌, ◌≤◌, length};
 ghost use Rattle.machine.specs.Rows.{row_state, row_inputs, Fillable};
 ghost use Rattle.certificate.specs.Area.{part, SmallInputs, SmallState};
 ghost use Rattle.certificate.specs.Steps.{claimed, bit_set, row_ended, step};
 ghost use Rattle.certificate.specs.Views.{view, seen, Steady, Steadily};
 
 use crate::phase::Phase;
-use crate::{Record, rows};
+use crate::{Claim, Record, rows};
 use machine::Machine;
 use refusal::CertificateFault;
 
@@ -21,7 +21,8 @@ fn open<M: Machine>(
     ensures is { seen (M.meaning machine.now) result row.new ≡ claimed (M.meaning machine.now) claim size }
     ensures steady { Steadily (M.meaning machine.now) result row.new }
 {
-    if claim != 3 || size < 1 || size > 4096 {
+    let claim = Claim::try_from(claim)?;
+    if claim != Claim::Counterexample || !(1..=4096).contains(&size) {
         return Err(CertificateFault::WrongNumber);
     }
     rows::begin(machine, row);
@@ -29,13 +30,6 @@ fn open<M: Machine>(
         left: size,
         bits: 0,
     })
-}
-
-// A bit is 0 or 1.
-fn is_bit(value: u8) -> bool
-    ensures { result ≡ nat_lt value 2 }
-{
-    value < 2
 }
 
 // One bit more of a row that lacks bits.
@@ -52,7 +46,8 @@ fn set_bit<M: Machine>(
     ensures is { seen (M.meaning machine.now) result row.new ≡ bit_set (M.meaning machine.now) value left (part 1 bits row.old) (row_state (M.meaning machine.now) row.old) }
     ensures steady { Steadily (M.meaning machine.now) result row.new }
 {
-    if !is_bit(value) {
+    // a bit is 0 or 1
+    if value > 1 {
         return Err(CertificateFault::WrongNumber);
     }
     row[1 + bits] = value;

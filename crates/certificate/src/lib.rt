@@ -2,10 +2,8 @@
 #![tactic(auto)]
 
 ghost use Rattle.std.specs.Prelude.{◌≡◌, ℕ, ◌<◌, ◌≤◌, List, length, replicate, Ok};
-ghost use Rattle.machine.specs.Meaning.{Meaning};
 ghost use Rattle.certificate.specs.Counterexamples.{Counterexample, Shows};
-ghost use Rattle.certificate.specs.Verdict.{is_closed, at_offset, finished, judged, admitted, replayed};
-ghost use Rattle.certificate.specs.Views.{view};
+ghost use Rattle.certificate.specs.Verdict.{finished, judged, admitted, replayed};
 
 use areas::Cleared;
 use decision::step;
@@ -13,6 +11,7 @@ use machine::Machine;
 use phase::Phase;
 use refusal::{CertificateFault, CertificateRefusal, DocketFault, Refusal};
 
+mod claim;
 mod cursor;
 mod decision;
 mod phase;
@@ -20,37 +19,16 @@ mod reading;
 mod record;
 mod rows;
 
+pub use claim::Claim;
 pub use cursor::Cursor;
 pub use record::Record;
-
-impl Phase {
-    fn closed(&self) -> bool
-        ensures { (m : Meaning) (area : List ℕ) → result ≡ is_closed (view m self.now area) }
-    {
-        match self {
-            Phase::Closed => true,
-            _ => false,
-        }
-    }
-}
-
-// A fault of the record at an offset; a counterexample has no refutation.
-fn at_offset(fault: CertificateFault, offset: usize) -> CertificateRefusal
-    ensures { result ≡ at_offset fault offset }
-{
-    CertificateRefusal {
-        fault,
-        offset,
-        question: 0,
-    }
-}
 
 // After the end no byte may follow.
 fn finish(cursor: &Cursor, records: usize) -> Result<usize, CertificateRefusal>
     ensures { result ≡ finished (length cursor.now.rest.now) cursor.now.offset records }
 {
     if !cursor.at_end() {
-        return Err(at_offset(CertificateFault::OutOfPlace, cursor.offset()));
+        return Err(CertificateFault::OutOfPlace.at(cursor.offset(), 0));
     }
     Ok(records)
 }
@@ -69,22 +47,19 @@ fn run<M: Machine>(
     let mut cursor = Cursor::new(bytes);
     let mut phase = Phase::Opening;
     let mut records = 0;
-    while !phase.closed() {
+    while phase != Phase::Closed {
         let offset = cursor.offset();
-        let Some(record) = cursor.next() else {
-            return Err(at_offset(CertificateFault::NoRecord, offset));
-        };
-        phase = match step(machine, rule, phase, record, row) {
-            Ok(next) => next,
-            Err(fault) => return Err(at_offset(fault, offset)),
-        };
+        let record = cursor
+            .next()
+            .ok_or(CertificateFault::NoRecord.at(offset, 0))?;
+        phase = step(machine, rule, phase, record, row).map_err(|fault| fault.at(offset, 0))?;
         records += 1;
     }
     finish(&cursor, records)
 }
 
 // Is there such a rule, and has the area a byte for each variable?
-fn admit<M: Machine>(machine: &M, rule: u32, area: usize) -> Result<(), DocketFault>
+pub fn admit<M: Machine>(machine: &M, rule: u32, area: usize) -> Result<(), DocketFault>
     ensures { result ≡ admitted (M.meaning machine.now) rule area }
 {
     if rule as usize >= machine.rules() {
@@ -110,8 +85,7 @@ pub fn replay<M: Machine>(
 {
     let row = Cleared(row);
     admit(machine, rule, row.0.len())?;
-    let records = run(machine, rule, bytes, row.0)?;
-    Ok(records)
+    Ok(run(machine, rule, bytes, row.0)?)
 }
 
 #[cfg(test)]

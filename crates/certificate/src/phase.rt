@@ -1,5 +1,5 @@
 // Where the check of a counterexample stands.
-#[derive(Clone, Copy)]
+#[derive(Clone, Copy, PartialEq, Eq, Debug)]
 pub enum Phase {
     // before the claim
     Opening,

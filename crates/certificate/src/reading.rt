@@ -1,11 +1,13 @@
 // Reading records from bytes.
-ghost use Rattle.std.specs.Prelude.{◌≡◌, ◌+◌, length, ◌==◌};
+ghost use Rattle.std.specs.Prelude.{◌≡◌, ◌+◌, length, ◌==◌, ⊤};
 ghost use Rattle.std.specs.Option.{option_map};
+ghost use Rattle.std.specs.Iterator.{at_most, MakesProgress};
 ghost use Rattle.certificate.specs.Records.{read, read_bare, record_of, left_of, Taken, Bytes};
 
 use crate::{Cursor, Record};
 
 // The first record of the bytes where it has no body, and the bytes after it.
+#[tactic(auto, using(std::proofs::lemmas::List::take_rest, std::proofs::lemmas::Bool::Decides::nat_tests), unfolding(crate::specs::Records::read_bare))]
 fn first_bare(bytes: &[u8]) -> Option<(Record, &[u8])>
     ensures { option_map (λ p. (p.0, p.1.now)) result ≡ read_bare bytes.now }
 {
@@ -20,6 +22,7 @@ fn first_bare(bytes: &[u8]) -> Option<(Record, &[u8])>
 }
 
 // The first record of the bytes, and the bytes after it; every number in the slice is a byte, so that no two records are written alike.
+#[tactic(auto, using(std::proofs::lemmas::List::take_rest, std::proofs::lemmas::Bool::Decides::nat_tests), unfolding(crate::specs::Records::read))]
 fn first(bytes: &[u8]) -> Option<(Record, &[u8])>
     ensures value { option_map (λ p. (p.0, p.1.now)) result ≡ read bytes.now }
     ensures bytes { Bytes bytes.now }
@@ -76,11 +79,21 @@ impl<'a> Cursor<'a> {
     pub fn at_end(&self) -> bool
         ensures { result ≡ (length self.now.rest.now == 0) }
     {
-        self.rest.len() == 0
+        self.rest.is_empty()
     }
+}
 
-    // Takes the next record; where no kind 1 to 10 stands with its whole body, none, and nothing is taken.
-    pub fn next(&mut self) -> Option<Record>
+// The records from here on; none where no kind 1 to 10 stands with its whole body, and then nothing is taken.
+impl Iterator for Cursor<'_> {
+    type Item = Record;
+
+    ghost next_gives = { λ before taken after. Taken before.rest.now after.rest.now taken };
+
+    // each record has a byte of its own
+    ghost remaining = { λ c. at_most (length c.rest.now) };
+
+    fn next(&mut self) -> Option<Record>
+        ensures goes { MakesProgress (λ _. ⊤) (λ c. at_most (length c.rest.now)) self.old result self.new }
         ensures value { result ≡ record_of self.old.rest.now }
         ensures rest { self.new.rest.now ≡ left_of self.old.rest.now }
         ensures offset { self.new.offset + length self.new.rest.now ≡ self.old.offset + length self.old.rest.now }

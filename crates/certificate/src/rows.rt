@@ -6,6 +6,7 @@ ghost use Rattle.machine.specs.Rows.{byte, bits, row_inputs, row_state, Fillable
 ghost use Rattle.certificate.specs.Area.{low, SmallState};
 
 use machine::Machine;
+use resolution::is_true;
 
 // Makes the start the state of the row.
 pub(crate) fn begin<M: Machine>(machine: &M, row: &mut [u8])
@@ -14,8 +15,9 @@ pub(crate) fn begin<M: Machine>(machine: &M, row: &mut [u8])
     ensures small { SmallState (M.meaning machine.now) row.new }
 {
     let first = 1 + machine.inputs();
-    for bit in 0..machine.state_bits() {
-        row[first + bit] = machine.start_bit(bit).unwrap() as u8;
+    let end = first + machine.state_bits();
+    for (bit, byte) in row[first..end].iter_mut().enumerate() {
+        *byte = machine.start_bit(bit).unwrap() as u8;
     }
 }
 
@@ -24,8 +26,7 @@ fn value(row: &[u8], literal: u32) -> bool
     requires { literal / 2 < length row.now }
     ensures { result ≡ literal_true (low row.now) literal }
 {
-    let set = row[(literal / 2) as usize] % 2 == 1;
-    if literal % 2 == 0 { set } else { !set }
+    is_true(literal, row[(literal / 2) as usize] % 2 == 1)
 }
 
 // Writes the next state beside the state: into bit 1 of its bytes, while bit 0 is still read.
@@ -41,14 +42,12 @@ fn mark_next<M: Machine>(machine: &M, row: &mut [u8])
     }
 }
 
-// Makes bit 1 of the state's bytes their only bit.
-fn shift_state<M: Machine>(machine: &M, row: &mut [u8])
-    requires { (M.meaning machine.now).variables ≤ length row.old }
-    ensures { (k : ℕ) → k < (M.meaning machine.now).state_bits → slice_index row.new (1 + (M.meaning machine.now).inputs + k) ≡ slice_index row.old (1 + (M.meaning machine.now).inputs + k) / 2 }
+// Makes bit 1 of each byte its only bit.
+fn shift(bytes: &mut [u8])
+    ensures { (k : ℕ) → slice_index bytes.new k ≡ slice_index bytes.old k / 2 }
 {
-    let first = 1 + machine.inputs();
-    for bit in 0..machine.state_bits() {
-        row[first + bit] /= 2;
+    for byte in bytes.iter_mut() {
+        *byte /= 2;
     }
 }
 
@@ -61,7 +60,8 @@ pub(crate) fn advance<M: Machine>(machine: &M, row: &mut [u8])
     // never refused: a byte for each variable is there, those of inputs and state are 0 or 1
     machine.fill(row).unwrap();
     mark_next(machine, row);
-    shift_state(machine, row);
+    let first = 1 + machine.inputs();
+    shift(&mut row[first..first + machine.state_bits()]);
 }
 
 // Whether the rule is broken in the row.

@@ -8,8 +8,8 @@ use Rattle.question_theory.specs.Traces.{StateClauses, questions_of_trace}
 use Rattle.question_theory.specs.Inductions.{questions_of_induction}
 use Rattle.question_theory.proofs.TraceLaw.{trace_law}
 use Rattle.question_theory.proofs.InductionLaw.{induction_law}
-use Rattle.opening.specs.declared.opening.Claim.{Claim}
-use Rattle.opening.specs.declared.opening.Claim.TheVariants.{Trace, Induction, Counterexample}
+use Rattle.certificate.specs.declared.claim.Claim.{Claim}
+use Rattle.certificate.specs.declared.claim.Claim.TheVariants.{Trace, Induction, Counterexample}
 use Rattle.checking.specs.declared.Accepted.{Accepted}
 use Rattle.checking.specs.Asked.{Areas, frame_of, room_above}
 use Rattle.checking.specs.Lawful.{Proof, Certificate, LawfulCertificate, Tells, Shows}

@@ -40,6 +40,13 @@ end_is (Bit b) e = absurd (false_true e)
 end_is RowEnd e = absurd (false_true e)
 end_is End e = refl
 
+pub no_ending : (r : Record) → (r ≡ End → ⊥) → is_ending r ≡ false
+no_ending r n = cases (is_ending r) refl
+  where
+    cases : (b : Bool) → is_ending r ≡ b → is_ending r ≡ false
+    cases true e = absurd (n (end_is r e))
+    cases false e = e
+
 module _ (number size : ℕ) (bytes : List ℕ) (k : ℕ) where
   abbrev ended : Option (Record × List ℕ) → Result ℕ CertificateRefusal
   ended o =

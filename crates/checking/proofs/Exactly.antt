@@ -16,8 +16,8 @@ use Rattle.certificate.specs.Verdict.{carried, replayed}
 use Rattle.certificate.specs.Counterexamples.{Counterexample, Shows, rows_records}
 use Rattle.certificate.proofs.Accepting.{err_ok}
 use Rattle.certificate.proofs.Showing.{shows, taken}
-use Rattle.opening.specs.declared.opening.Claim.{Claim}
-use Rattle.opening.specs.declared.opening.Claim.TheVariants.{Trace, Induction, Counterexample as Broken}
+use Rattle.certificate.specs.declared.claim.Claim.{Claim}
+use Rattle.certificate.specs.declared.claim.Claim.TheVariants.{Trace, Induction, Counterexample as Broken}
 use Rattle.opening.specs.Steps.{room_in}
 use Rattle.opening.specs.Reading.{Contents, Answer, reading}
 use Rattle.opening.specs.Openings.{opening_records, Opens}

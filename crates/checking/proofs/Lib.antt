@@ -6,6 +6,6 @@ pub mod Endings
 pub mod Exactly
 pub mod Certified
 pub mod Loop
-pub mod InductionLoop
-pub mod TraceLoop
+pub mod InductionQuestions
+pub mod TraceQuestions
 pub mod Checking

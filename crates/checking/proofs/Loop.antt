@@ -1,29 +1,28 @@
 -- The questions of a claim are put one after another.
 use Rattle.std.proofs.Common.{◌≡◌, ℕ, ◌+◌, ◌-◌, ◌<◌, ◌≤◌, true, List, [], ◌∷◌, ◌++◌, length, get_or, take, drop, Ok, Err, Result, sym, refl, ap, ◌∙◌, subst, ap₂, append-nil, arith}
-use Rattle.std.proofs.lemmas.List.{length-append, drop_more, drop_all}
+use Rattle.std.proofs.lemmas.List.{drop_more, drop_all}
 use Rattle.refusal.specs.declared.faults.CertificateRefusal.{CertificateRefusal}
 use Rattle.stack.specs.declared.spans.Span.{Span}
 use Rattle.stack.specs.declared.Stack.{Stack}
 use Rattle.resolution.specs.Outcomes as refutation
 use Rattle.frames.specs.declared.frames.Frames.{Frames}
 use Rattle.frames.specs.Held.{flat}
-use Rattle.machine.specs.Meaning.{Meaning}
-use Rattle.certificate.specs.declared.cursor.Cursor.{Cursor}
 use Rattle.certificate.specs.declared.record.Record.{Record}
 use Rattle.certificate.specs.Records.{encodes}
 use Rattle.certificate.proofs.Codes.{longer}
 use Rattle.opening.specs.declared.opening.Opening.{Opening}
 use Rattle.opening.specs.Steps.{clauses_in}
-use Rattle.opening.specs.Views.{held, Settled, contents}
+use Rattle.opening.specs.Views.{held, Settled}
 use Rattle.opening.proofs.HeldFrames.{clauses_used, literals_used}
 use Rattle.refuting.specs.declared.Below.{Below}
 use Rattle.refuting.specs.Rooms as rooms
 use Rattle.refuting.specs.Rooms.{Room, Ready}
 use Rattle.refuting.specs.Reading.{refutation_read}
-use Rattle.refuting.specs.Refutations.{records, Shows}
 use Rattle.refuting.specs.Checked.{Checked}
-use Rattle.checking.specs.Asked.{questions, room_above}
-use Rattle.checking.specs.Verdicts.{ending, refuted, refutations}
+use Rattle.refuting.proofs.Loop.{still}
+use Rattle.checking.specs.Begun.{Begun, Puts}
+use Rattle.checking.specs.Asked.{room_above}
+use Rattle.checking.specs.Verdicts.{ending, refuted}
 use Rattle.checking.proofs.Endings.{refuted_goes, refuted_stops}
 
 -- a record has a byte at least
@@ -34,11 +33,10 @@ enough (r ∷ rs) = omega (arith, enough rs, longer r (encodes (r ∷ rs)) (enco
 -- after so many questions, the others come to what all come to
 pub record Going (qs : List (List (List ℕ))) (room : Room) (size : ℕ) (first : List ℕ) (k₀ number : ℕ) (rest : List ℕ) (at k : ℕ) : Type 0 where
   pub taken : at + length rest ≡ size
-  pub few : k ≤ at
   pub same : refuted qs room 0 size first k₀ ≡ refuted (drop number qs) room number size rest k
 
-pub going_none : (qs : List (List (List ℕ))) (room : Room) (first : List ℕ) (k₀ at : ℕ) → k₀ ≤ at → Going qs room (at + length first) first k₀ 0 first at k₀
-going_none qs room first k₀ at h = record { taken = refl; few = h; same = refl }
+pub going_none : (qs : List (List (List ℕ))) (room : Room) (first : List ℕ) (k₀ at : ℕ) → Going qs room (at + length first) first k₀ 0 first at k₀
+going_none qs room first k₀ at = record { taken = refl; same = refl }
 
 module _ (qs : List (List (List ℕ))) (room : Room) (size : ℕ) (first : List ℕ) (k₀ number : ℕ) (rest : List ℕ) (at k : ℕ) (q : Going qs room size first k₀ number rest at k) where
   -- a refutation of the next question was read
@@ -61,16 +59,9 @@ module _ (qs : List (List (List ℕ))) (room : Room) (size : ℕ) (first : List 
         sym (next ∙ refuted_stops room (get_or qs number []) (drop (number + 1) qs) number size rest k x left
         (read_is ∙ ap (λ (a : Result ℕ CertificateRefusal). record { answer = a; left = left }) e))
 
-    -- it has no more records than bytes
-    pub counted : (count : ℕ) → r ≡ Ok count → count + length left ≤ length rest
-    counted count e =
-        let w = subst (Shows list there rest left) e c.shown in
-        omega (arith, w.counted, enough (records w.steps), ap length w.written, length-append (encodes (records w.steps)) left)
-
     pub going_more : (count at' : ℕ) → r ≡ Ok count → at' + length left ≡ at + length rest → Going qs room size first k₀ (number + 1) left at' (k + count)
-    going_more count at' e o = let t = q.taken in let f = q.few in let n = counted count e in record {
+    going_more count at' e o = let t = q.taken in record {
       taken = omega arith;
-      few = omega arith;
       same = next ∙ refuted_goes room (get_or qs number []) (drop (number + 1) qs) number size rest k count left
           (read_is ∙ ap (λ (a : Result ℕ CertificateRefusal). record { answer = a; left = left }) e);
     }
@@ -138,50 +129,48 @@ module _ (f : Frames) (ls ms : List ℕ) (ps qs : List Span) (settled : Settled 
     spans = subst (λ (i : Stack). take i.used ts ≡ take i.used qs) s c.spans ∙ k.spans;
   }
 
--- where the questions of an opening stand: what was put so far, and the areas
-abbrev pub UnderWay : Meaning → ℕ → Opening → List ℕ → List Span → Cursor → ℕ → Cursor → ℕ → List ℕ → List Span → Type 0
-UnderWay m rule o ls ps before number after k ms qs =
-    let frames = held o.frames ls ps in
-    Going (questions m rule o.claim o.size frames) (room_above (length ls) (length ps) frames) (before.offset + length before.rest.now) before.rest.now o.records number
-    after.rest.now after.offset k
-    × Kept o.frames ls ms ps qs
+-- the questions so far were put, and the areas are as the frames left them
+abbrev pub UnderWay : Frames → List ℕ → List Span → List (List (List ℕ)) → ℕ → List ℕ → ℕ → ℕ → List ℕ → ℕ → ℕ → List ℕ → List Span → Type 0
+UnderWay f ls ps qs size first k₀ number rest at k ms ts = Going qs (room_above (length ls) (length ps) (held f ls ps)) size first k₀ number rest at k × Kept f ls ms ps ts
 
 -- after the last question
-pub questions_end : (m : Meaning) (rule : ℕ) (o : Opening) (ls : List ℕ) (ps : List Span) (before : Cursor) (number : ℕ) (after : Cursor) (k : ℕ) (ms : List ℕ) (qs : List Span) →
-    UnderWay m rule o ls ps before number after k ms qs → (count : ℕ) → count ≡ length (questions m rule o.claim o.size (held o.frames ls ps)) → count ≤ number → number ≤ count →
-    ending count (after.offset + length after.rest.now) after.rest.now k ≡ refutations m rule (length ls) (length ps) (contents o ls ps) (before.offset + length before.rest.now) before.rest.now
-questions_end m rule o ls ps before number after k ms qs w count counts a b =
+pub questions_end : (f : Frames) (ls : List ℕ) (ps : List Span) (qs : List (List (List ℕ))) (size : ℕ) (first : List ℕ) (k₀ number : ℕ) (rest : List ℕ) (at k : ℕ) (ms : List ℕ) (ts : List Span) →
+    UnderWay f ls ps qs size first k₀ number rest at k ms ts → (count : ℕ) → count ≡ length qs → count ≤ number → number ≤ count →
+    ending count (at + length rest) rest k ≡ refuted qs (room_above (length ls) (length ps) (held f ls ps)) 0 size first k₀
+questions_end f ls ps qs size first k₀ number rest at k ms ts w count counts a b =
     let n : count ≡ number = omega arith in
-    ap (λ (i : ℕ). ending i (after.offset + length after.rest.now) after.rest.now k) n
-    ∙ sym (going_end (questions m rule o.claim o.size (held o.frames ls ps)) _ _ _ _ number after.rest.now after.offset k w.0 (omega arith))
+    ap (λ (i : ℕ). ending i (at + length rest) rest k) n ∙ sym (going_end qs _ _ _ _ number rest at k w.0 (omega arith))
 
--- one question more
-module _ (m : Meaning) (rule : ℕ) (o : Opening) (ls : List ℕ) (ps : List Span) (before : Cursor) (number : ℕ) (after : Cursor) (k : ℕ) (ms : List ℕ) (qs : List Span)
-    (w : UnderWay m rule o ls ps before number after k ms qs) (settled : Settled o.frames ls ps) (below : Below) (l : below.literals ≡ o.frames.literals) (s : below.spans ≡ o.frames.spans) where
-  pub question_ready : (literal-mark span-mark : ℕ) → literal-mark ≤ o.frames.literals.used → span-mark ≤ o.frames.spans.used → refutation.admitted (length ls) (length ps) ≡ true →
-      Ready literal-mark span-mark (rooms.room_above below ms qs)
-  question_ready = ready o.frames ls ms ps qs settled w.1 below l s
+-- one question more, of which a list was given
+module _ {X : Type 0} (gives : ℕ → X → Type 0) (clauses : X → List ℕ → List Span → List (List ℕ)) (literal-mark span-mark : X → ℕ)
+    (stands : (x : X) (ls ms : List ℕ) (ps qs : List Span) → take (literal-mark x) ms ≡ take (literal-mark x) ls → take (span-mark x) qs ≡ take (span-mark x) ps → clauses x ms qs ≡ clauses x ls ps)
+    (o : Opening) (offset : ℕ) (ls : List ℕ) (ps : List Span) (begun : Begun o offset ls ps) (total : ℕ) (qs : List (List (List ℕ))) (puts : Puts gives clauses literal-mark span-mark o.frames ls ps total qs)
+    (below : Below) (l : below.literals ≡ o.frames.literals) (s : below.spans ≡ o.frames.spans)
+    (size : ℕ) (first : List ℕ) (k₀ number : ℕ) (rest : List ℕ) (at k : ℕ) (ms : List ℕ) (ts : List Span) (w : UnderWay o.frames ls ps qs size first k₀ number rest at k ms ts)
+    (inside : number < total) (x : X) (given : gives number x) where
+  within : number < length qs
+  within = omega (arith, puts.all)
 
-  module _ (inside : number < length (questions m rule o.claim o.size (held o.frames ls ps))) (list : List (List ℕ)) (is : list ≡ get_or (questions m rule o.claim o.size (held o.frames ls ps)) number [])
-      (next : Cursor) (ns : List ℕ) (ts : List Span) (r : Result ℕ CertificateRefusal)
-      (c : Checked list (rooms.room_above below ms qs) (number + 1) after.offset after.rest.now next.rest.now ms ns qs ts r) where
-    pub question_stops : (x : CertificateRefusal) → r ≡ Err x →
-        Err x ≡ refutations m rule (length ls) (length ps) (contents o ls ps) (before.offset + length before.rest.now) before.rest.now
-    question_stops x e =
-        going_stops (questions m rule o.claim o.size (held o.frames ls ps)) _ _ _ _ number after.rest.now after.offset k w.0 inside list is
-        _ (same_room o.frames ls ms ps qs settled w.1 below l s) next.rest.now ms ns qs ts r c x e
+  question_ready : Ready (literal-mark x) (span-mark x) (rooms.room_above below ms ts)
+  question_ready = ready o.frames ls ms ps ts begun.settled w.1 below l s (literal-mark x) (span-mark x) (puts.literals number x inside given) (puts.spans number x inside given) begun.admits
 
-    pub question_counted : (count : ℕ) → r ≡ Ok count → next.offset + length next.rest.now ≡ after.offset + length after.rest.now → k + count ≤ next.offset
-    question_counted count e f =
-        let few = w.0.few in
-        let n = counted (questions m rule o.claim o.size (held o.frames ls ps)) _ _ _ _ number after.rest.now after.offset k w.0 inside list is
-        _ (same_room o.frames ls ms ps qs settled w.1 below l s) next.rest.now ms ns qs ts r c count e in
-        omega arith
+  asks : clauses x ms ts ≡ get_or qs number []
+  asks =
+      still (clauses x) (literal-mark x) (span-mark x) (stands x) (rooms.room_above below ms ts) question_ready ls ms ps ts
+      (subst (λ (i : Stack). take i.used ms ≡ take i.used ls) (sym l) w.1.literals) (subst (λ (i : Stack). take i.used ts ≡ take i.used ps) (sym s) w.1.spans)
+      ∙ puts.each number x inside given
 
-    pub question_goes : (count : ℕ) → r ≡ Ok count → next.offset + length next.rest.now ≡ after.offset + length after.rest.now → length ns ≡ length ms → length ts ≡ length qs →
-        UnderWay m rule o ls ps before (number + 1) next (k + count) ns ts
-    question_goes count e f a b = (
-      going_more (questions m rule o.claim o.size (held o.frames ls ps)) _ _ _ _ number after.rest.now after.offset k w.0 inside list is
-          _ (same_room o.frames ls ms ps qs settled w.1 below l s) next.rest.now ms ns qs ts r c count next.offset e f,
-      kept_more o.frames ls ms ps qs settled w.1 below l s c a b,
+  module _ (left ns : List ℕ) (us : List Span) (r : Result ℕ CertificateRefusal)
+      (checked : Ready (literal-mark x) (span-mark x) (rooms.room_above below ms ts) → Checked (clauses x ms ts) (rooms.room_above below ms ts) (number + 1) at rest left ms ns ts us r) where
+    pub question_stops : (e : CertificateRefusal) → r ≡ Err e → Err e ≡ refuted qs (room_above (length ls) (length ps) (held o.frames ls ps)) 0 size first k₀
+    question_stops =
+        going_stops qs _ size first k₀ number rest at k w.0 within (clauses x ms ts) asks
+        _ (same_room o.frames ls ms ps ts begun.settled w.1 below l s) left ms ns ts us r (checked question_ready)
+
+    pub question_goes : (count at' : ℕ) → r ≡ Ok count → at' + length left ≡ at + length rest → length ns ≡ length ms → length us ≡ length ts →
+        UnderWay o.frames ls ps qs size first k₀ (number + 1) left at' (k + count) ns us
+    question_goes count at' e f a b = (
+      going_more qs _ size first k₀ number rest at k w.0 within (clauses x ms ts) asks
+          _ (same_room o.frames ls ms ps ts begun.settled w.1 below l s) left ms ns ts us r (checked question_ready) count at' e f,
+      kept_more o.frames ls ms ps ts begun.settled w.1 below l s (checked question_ready) a b,
     )

@@ -5,8 +5,8 @@ use Rattle.machine.specs.Meaning.{Meaning}
 use Rattle.question_theory.specs.Traces.{questions_of_trace}
 use Rattle.question_theory.specs.Inductions.{questions_of_induction}
 use Rattle.frames.specs.Held.{flat}
-use Rattle.opening.specs.declared.opening.Claim.{Claim}
-use Rattle.opening.specs.declared.opening.Claim.TheVariants.{Trace, Induction, Counterexample}
+use Rattle.certificate.specs.declared.claim.Claim.{Claim}
+use Rattle.certificate.specs.declared.claim.Claim.TheVariants.{Trace, Induction, Counterexample}
 use Rattle.opening.specs.Steps.{clauses_in}
 use Rattle.refuting.specs.Rooms.{Room}
 

@@ -10,8 +10,8 @@ use Rattle.certificate.specs.declared.record.Record.{Record}
 use Rattle.certificate.specs.declared.record.Record.TheVariants.{End}
 use Rattle.certificate.specs.Records.{encodes}
 use Rattle.certificate.specs.Counterexamples.{Counterexample}
-use Rattle.opening.specs.declared.opening.Claim.{Claim}
-use Rattle.opening.specs.declared.opening.Claim.TheVariants as claim
+use Rattle.certificate.specs.declared.claim.Claim.{Claim}
+use Rattle.certificate.specs.declared.claim.Claim.TheVariants as claim
 use Rattle.opening.specs.Steps.{room_in}
 use Rattle.opening.specs.Openings.{opening_records, Proper}
 use Rattle.refuting.specs.Rooms.{Room}

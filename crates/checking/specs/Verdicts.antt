@@ -12,8 +12,8 @@ use Rattle.certificate.specs.declared.record.Record.{Record}
 use Rattle.certificate.specs.declared.record.Record.TheVariants.{Claim as Claim-record, Literal, ClauseEnd, FrameEnd, Take, Resolve, RefutationEnd, Bit, RowEnd, End}
 use Rattle.certificate.specs.Records.{read}
 use Rattle.certificate.specs.Verdict.{at_offset, carried, replayed}
-use Rattle.opening.specs.declared.opening.Claim.{Claim}
-use Rattle.opening.specs.declared.opening.Claim.TheVariants.{Trace, Induction, Counterexample}
+use Rattle.certificate.specs.declared.claim.Claim.{Claim}
+use Rattle.certificate.specs.declared.claim.Claim.TheVariants.{Trace, Induction, Counterexample}
 use Rattle.opening.specs.Steps.{room_in}
 use Rattle.opening.specs.Reading.{Contents, reading}
 use Rattle.refuting.specs.Rooms.{Room}

@@ -2,7 +2,7 @@
 #![tactic(auto)]
 
 ghost use Rattle.std.specs.Prelude.{◌≡◌, ℕ, ◌+◌, length, Ok};
-ghost use Rattle.opening.specs.declared.opening.Claim.{Claim as ClaimOf};
+ghost use Rattle.certificate.specs.declared.claim.Claim.{Claim as ClaimOf};
 ghost use Rattle.opening.specs.Views.{contents};
 ghost use Rattle.checking.specs.Asked.{areas_of};
 ghost use Rattle.checking.specs.Begun.{Opened};
@@ -14,7 +14,7 @@ use machine::Machine;
 use opening::{Opening, open};
 use refusal::{DocketFault, Refusal};
 use refutations::{check_induction, check_trace};
-use stack::Span;
+use stack::{MOST_LITERALS, MOST_SPANS, Span};
 
 mod refutations;
 
@@ -37,10 +37,8 @@ pub fn admit<M: Machine>(
 ) -> Result<(), DocketFault>
     ensures { result ≡ admitted (M.meaning machine.now) rule (record { row = row; literals = literals; spans = spans }) }
 {
-    if rule as usize >= machine.rules() {
-        return Err(DocketFault::NoRule);
-    }
-    if row < machine.variables() || literals > 1_048_576 || spans > 65_536 {
+    certificate::admit(machine, rule, row)?;
+    if literals > MOST_LITERALS || spans > MOST_SPANS {
         return Err(DocketFault::UnfitArea);
     }
     Ok(())

@@ -1,24 +1,24 @@
 -- What filling a row does, gate by gate.
-use Rattle.std.proofs.Common.{◌≡◌, ℕ, suc, ◌+◌, ◌-◌, ◌*◌, ◌<◌, ◌≤◌, Bool, true, false, ◌&&◌, ◌≢◌, List, [], ◌∷◌, ◌++◌, length, get_or, take, drop, set, sym, refl, ap, ◌∙◌, subst, ⊎_elim, arith, below_more}
+use Rattle.std.proofs.Common.{◌≡◌, ℕ, suc, ◌+◌, ◌-◌, ◌*◌, ◌/◌, ◌<◌, ◌≤◌, Bool, true, false, ◌&&◌, ◌≢◌, List, [], ◌∷◌, ◌++◌, length, get_or, take, drop, set, sym, refl, ap, ◌∙◌, subst, ⊎_elim, arith, below_more}
 use lib.Bits.{bit_and}
-use Rattle.std.proofs.lemmas.List.{take_more_set, drop_more, drop_all, map_push, get_or-set_same, get_or-set_other, length-take-le, length-drop, length-map, drop-set-lt, take-append-drop, drop-take, take-map, take-take}
+use Rattle.std.proofs.lemmas.List.{take_more_set, drop_more, drop_all, map_push, get_or-set_same, get_or-set_other, get_or-drop, length-take-le, length-drop, length-map, drop-set-lt, take-append-drop, drop-take, take-map, take-take}
 use Rattle.std.proofs.lemmas.Bool.{cases_eq}
 use Rattle.machine.specs.Meaning.{Meaning, Fits, lit}
 use Rattle.machine.specs.Rows.{Filled, bit, byte, bits, row_inputs, row_state}
-use Rattle.machine.proofs.RowBits.{bit_byte}
+use Rattle.machine.proofs.RowBits.{bit_byte, byte_small, lit_taken}
 use Rattle.aiger.specs.declared.header.Header.{Header}
 use Rattle.aiger.specs.Numbers.{Good, needed}
 use Rattle.aiger.specs.Evaluation.{operands, grow, meant}
 use Rattle.aiger.proofs.Law.{operands_length, evaluated_fits}
 
-pub both_bytes : (p q : Bool) → bit_and (byte p) (byte q) ≡ byte (p && q)
+both_bytes : (p q : Bool) → bit_and (byte p) (byte q) ≡ byte (p && q)
 both_bytes true true = refl
 both_bytes true false = refl
 both_bytes false true = refl
 both_bytes false false = refl
 
 -- one gate more stands in the row
-pub gate_more : (r row : List ℕ) (n j z : ℕ) → n < length row → 2 * j + 1 < length r →
+gate_more : (r row : List ℕ) (n j z : ℕ) → n < length row → 2 * j + 1 < length r →
     z ≡ byte (lit (bits (take n row)) (get_or r (2 * j) 0) && lit (bits (take n row)) (get_or r (2 * j + 1) 0)) →
     grow (bits (take (n + 1) (set row n z))) (drop (2 * (j + 1)) r) ≡ grow (bits (take n row)) (drop (2 * j) r)
 gate_more r row n j z ln lr ez =
@@ -32,13 +32,13 @@ gate_more r row n j z ln lr ez =
     ap bits (take_more_set row n z ln) ∙ map_push bit (take n row) z ∙ ap (λ (y : Bool). u ++ y ∷ []) (ap bit ez ∙ bit_byte value) in
     ap (λ (w : List Bool). grow w (drop (2 * (j + 1)) r)) row' ∙ sym (ap (grow u) rest)
 
-pub small_more : (row : List ℕ) (n z : ℕ) → n < length row → z < 2 → ((k : ℕ) → k < n → get_or row k 0 < 2) → (k : ℕ) → k < n + 1 → get_or (set row n z) k 0 < 2
+small_more : (row : List ℕ) (n z : ℕ) → n < length row → z < 2 → ((k : ℕ) → k < n → get_or row k 0 < 2) → (k : ℕ) → k < n + 1 → get_or (set row n z) k 0 < 2
 small_more row n z l s h =
     below_more _ _
     (λ k k<. let ne : k ≢ n = omega arith in omega (arith, get_or-set_other row n k z 0 ne, h k k<))
     (omega (arith, get_or-set_same row n z 0 l))
 
-pub small_first : (row : List ℕ) (n : ℕ) → 0 < length row → ((k : ℕ) → k < n → get_or row (1 + k) 0 < 2) → (k : ℕ) → k < 1 + n → get_or (set row 0 0) k 0 < 2
+small_first : (row : List ℕ) (n : ℕ) → 0 < length row → ((k : ℕ) → k < n → get_or row (1 + k) 0 < 2) → (k : ℕ) → k < 1 + n → get_or (set row 0 0) k 0 < 2
 small_first row n l h k k< =
     ⊎_elim
     (λ (e : k ≡ 0). omega (arith, ap (λ (i : ℕ). get_or (set row 0 0) i 0) e, get_or-set_same row 0 0 0 l))
@@ -46,6 +46,52 @@ small_first row n l h k k< =
     let e : 1 + (k - 1) ≡ k = omega arith in
     omega (arith, get_or-set_other row 0 k 0 0 ne, ap (λ (i : ℕ). get_or row i 0) e, h (k - 1) (omega arith)))
     (cases_eq k 0)
+
+-- the first so many gates stand in the row, as 0 or 1, and what is beyond the variables stays
+pub record GatesFilled (h : Header) (area old row : List ℕ) (gates : ℕ) : Type 0 where
+  pub grown : grow (bits (take (1 + h.inputs + h.latches + gates) row)) (drop (2 * gates) (operands h area)) ≡ grow (bits (take (1 + h.inputs + h.latches) old)) (operands h area)
+  pub small : (k : ℕ) → k < 1 + h.inputs + h.latches + gates → get_or row k 0 < 2
+  pub rest : drop (h.maximum + 1) row ≡ drop (h.maximum + 1) old
+
+pub no_gates : (h : Header) (area row : List ℕ) → 0 < length row → ((k : ℕ) → k < h.inputs + h.latches → get_or row (1 + k) 0 < 2) →
+    GatesFilled h area (set row 0 0) (set row 0 0) 0
+no_gates h area row some small =
+    let e : 1 + h.inputs + h.latches + 0 ≡ 1 + h.inputs + h.latches = omega arith in
+    record {
+      grown = ap (λ (k : ℕ). grow (bits (take k (set row 0 0))) (operands h area)) e;
+      small = λ k l. small_first row (h.inputs + h.latches) some small k (omega arith);
+      rest = refl;
+    }
+
+-- one gate more, of operands that were read at their place in the area
+pub gates_more : (h : Header) (area old row : List ℕ) (j n at x y : ℕ) → Good h area → length area ≡ needed h → GatesFilled h area old row j →
+    j < h.gates → n ≡ 1 + h.inputs + h.latches + j → at ≡ h.latches + h.outputs + 2 * j → n < length row →
+    x ≡ byte (lit (bits row) (get_or area at 0)) → y ≡ byte (lit (bits row) (get_or area (at + 1) 0)) → GatesFilled h area old (set row n (bit_and x y)) (j + 1)
+gates_more h area old row j n at x y good whole so_far low is_n is_at room is_x is_y =
+    let r : List ℕ = operands h area in
+    let u : List Bool = bits (take n row) in
+    let ops = good.2 j low in
+    let first : ℕ = h.latches + h.outputs in
+    let next : first + (2 * j + 1) ≡ at + 1 = omega arith in
+    let ea : get_or r (2 * j) 0 ≡ get_or area at 0 = get_or-drop first area (2 * j) 0 ∙ ap (λ (k : ℕ). get_or area k 0) (sym is_at) in
+    let eb : get_or r (2 * j + 1) 0 ≡ get_or area (at + 1) 0 = get_or-drop first area (2 * j + 1) 0 ∙ ap (λ (k : ℕ). get_or area k 0) next in
+    let la : get_or area at 0 / 2 < n = omega (arith, ops.0, get_or-drop first area (2 * j) 0) in
+    let lb : get_or area (at + 1) 0 / 2 < n = omega (arith, ops.0, ops.1, get_or-drop first area (2 * j) 0, get_or-drop first area (2 * j + 1) 0) in
+    let va : x ≡ byte (lit u (get_or r (2 * j) 0)) = is_x ∙ ap byte (sym (lit_taken row n (get_or area at 0) la) ∙ ap (lit u) (sym ea)) in
+    let vb : y ≡ byte (lit u (get_or r (2 * j + 1) 0)) = is_y ∙ ap byte (sym (lit_taken row n (get_or area (at + 1) 0) lb) ∙ ap (lit u) (sym eb)) in
+    let z : bit_and x y ≡ byte (lit u (get_or r (2 * j) 0) && lit u (get_or r (2 * j + 1) 0)) = both va vb ∙ both_bytes (lit u (get_or r (2 * j) 0)) (lit u (get_or r (2 * j + 1) 0)) in
+    let small = byte_small (lit u (get_or r (2 * j) 0) && lit u (get_or r (2 * j + 1) 0)) in
+    let more = gate_more r row n j (bit_and x y) room (omega (arith, operands_length h area good whole)) z in
+    let en : 1 + h.inputs + h.latches + (j + 1) ≡ n + 1 = omega arith in
+    let inside : n < h.maximum + 1 = omega (arith, good.0.0) in
+    record {
+      grown = ap (λ (k : ℕ). grow (bits (take k (set row n (bit_and x y)))) (drop (2 * (j + 1)) r)) en ∙ more ∙ ap (λ (k : ℕ). grow (bits (take k row)) (drop (2 * j) r)) is_n ∙ so_far.grown;
+      small = λ k l. small_more row n (bit_and x y) room (omega arith) (λ i low. so_far.small i (omega arith)) k (omega arith);
+      rest = drop-set-lt (h.maximum + 1) row n (bit_and x y) inside ∙ so_far.rest;
+    }
+  where
+    both : {p p' q q' : ℕ} → p ≡ p' → q ≡ q' → bit_and p q ≡ bit_and p' q'
+    both e f = cc
 
 -- the row begins with false, the inputs and the state
 front_is : (m : Meaning) (row : List ℕ) → 1 + m.inputs + m.state_bits ≤ length row →
@@ -66,23 +112,23 @@ front_is m (b ∷ row) l =
 
 -- after the last gate the row is filled
 pub filled : (h : Header) (area old new : List ℕ) → Good h area → length area ≡ needed h → h.maximum + 1 ≤ length old → length new ≡ length old →
-    grow (bits (take (h.maximum + 1) new)) (drop (2 * h.gates) (operands h area)) ≡ grow (bits (take (1 + h.inputs + h.latches) (set old 0 0))) (operands h area) →
-    ((k : ℕ) → k < h.maximum + 1 → get_or new k 0 < 2) → drop (h.maximum + 1) new ≡ drop (h.maximum + 1) (set old 0 0) → Filled (meant h area) old new
-filled h area old new good whole room same grown small rest =
+    (n : ℕ) → n ≡ h.gates → GatesFilled h area (set old 0 0) new n → Filled (meant h area) old new
+filled h area old new good whole room same n all done =
     let m : Meaning = meant h area in
     let i = h.inputs in
     let s = h.latches in
     let sum = good.0.0 in
-    let none : drop (2 * h.gates) (operands h area) ≡ [] = drop_all (2 * h.gates) (operands h area) (omega (arith, operands_length h area good whole)) in
+    let none : drop (2 * n) (operands h area) ≡ [] = drop_all (2 * n) (operands h area) (omega (arith, operands_length h area good whole)) in
     let w : List Bool = bits (take (h.maximum + 1) new) in
+    let size : h.maximum + 1 ≡ 1 + i + s + n = omega arith in
     let w-is : w ≡ grow (false ∷ (row_inputs m old ++ row_state m old)) (operands h area) =
-    sym (ap (grow w) none) ∙ grown ∙ ap (λ (u : List Bool). grow u (operands h area)) (front_is m old (omega arith)) in
+    sym (ap (grow w) none) ∙ ap (λ (k : ℕ). grow (bits (take k new)) (drop (2 * n) (operands h area))) size ∙ done.grown ∙ ap (λ (u : List Bool). grow u (operands h area)) (front_is m old (omega arith)) in
     let li : length (row_inputs m old) ≡ i = length-take-le i (drop 1 (bits old)) (omega (arith, length-drop 1 (bits old), length-map old bit)) in
     let ls : length (row_state m old) ≡ s = length-take-le s (drop (1 + i) (bits old)) (omega (arith, length-drop (1 + i) (bits old), length-map old bit)) in
     let pos : 0 < h.maximum + 1 = omega arith in
     record {
       same_length = same;
-      small = small;
+      small = λ k l. done.small k (omega arith);
       fits = subst (λ (y : List Bool). Fits m (row_state m old) (row_inputs m old) y) (sym w-is) (evaluated_fits h area good whole (row_state m old) (row_inputs m old) ls li);
-      rest = rest ∙ drop-set-lt (h.maximum + 1) old 0 0 pos;
+      rest = done.rest ∙ drop-set-lt (h.maximum + 1) old 0 0 pos;
     }

@@ -6,7 +6,7 @@ use Rattle.resolution.specs.Clauses.{denial}
 use Rattle.machine.specs.Lists.{entry}
 use Rattle.machine.proofs.Entries.{entry_at, entry_past}
 use Rattle.aiger.specs.declared.header.Header.{Header}
-use Rattle.aiger.specs.Numbers.{Good, needed}
+use Rattle.aiger.specs.Numbers.{Good, needed, gate_literal}
 use Rattle.aiger.specs.Evaluation.{operands, two, clauses_of_gate, gate_clauses, meant}
 use Rattle.aiger.proofs.Law.{operands_length, clauses_count}
 
@@ -68,11 +68,11 @@ module _ (h : Header) (area : List ℕ) (good : Good h area) (whole : length are
   clause_past c n past = entry_past (meant h area).clauses c (omega (arith, clauses_count h area good whole))
 
   -- any other is a clause of a gate
-  pub clause_gate : (c : ℕ) → (c ≡ 0 → ⊥) → (c - 1) / 3 < h.gates →
+  clause_there : (c : ℕ) → (c ≡ 0 → ⊥) → (c - 1) / 3 < h.gates →
       entry (meant h area).clauses c
-      ≡ Some (get_or (clauses_of_gate (2 * (1 + h.inputs + h.latches + (c - 1) / 3))
+      ≡ Some (get_or (clauses_of_gate (gate_literal h ((c - 1) / 3))
       (get_or area (h.latches + h.outputs + 2 * ((c - 1) / 3)) 0) (get_or area (h.latches + h.outputs + 2 * ((c - 1) / 3) + 1) 0)) ((c - 1) % 3) [])
-  clause_gate c n low =
+  clause_there c n low =
       let j : ℕ = (c - 1) / 3 in
       let place : ℕ = (c - 1) % 3 in
       let at : ℕ = h.latches + h.outputs in
@@ -85,3 +85,9 @@ module _ (h : Header) (area : List ℕ) (good : Good h area) (whole : length are
     where
       same : (gate place : ℕ) {x x' y y' : ℕ} → x ≡ x' → y ≡ y' → get_or (clauses_of_gate gate x y) place [] ≡ get_or (clauses_of_gate gate x' y') place []
       same gate place e f = cc
+
+  -- the same, said of a gate literal and a first operand that were computed
+  pub clause_gate : (c gate first : ℕ) → (c ≡ 0 → ⊥) → (c - 1) / 3 < h.gates → gate ≡ gate_literal h ((c - 1) / 3) → first ≡ h.latches + h.outputs →
+      entry (meant h area).clauses c
+      ≡ Some (get_or (clauses_of_gate gate (get_or area (first + 2 * ((c - 1) / 3)) 0) (get_or area (first + 2 * ((c - 1) / 3) + 1) 0)) ((c - 1) % 3) [])
+  clause_gate c gate first n low is_gate is_first = rw (is_gate, is_first) (clause_there c n low)

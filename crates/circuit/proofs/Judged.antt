@@ -1,7 +1,9 @@
 -- The questions on numbers are answered yes exactly where the numbers make a circuit.
-use Rattle.std.proofs.Common.{◌≡◌, ℕ, zero, suc, ◌+◌, ◌*◌, ◌<◌, ◌≤◌, Bool, true, false, cond, ◌&&◌, eqb, ltb, leb, ◌⊎◌, List, length, get_or, take, Ok, Err, Result, refl, ap, ◌∙◌, ⊎_elim, add-one, arith, MatchResult}
+use Rattle.std.specs.Bool.{MatchBool}
+use Rattle.std.specs.List.{AllWithin, HoldsAt}
+use Rattle.std.proofs.Common.{sym, ◌≡◌, ℕ, zero, suc, ◌+◌, ◌*◌, ◌<◌, Bool, true, false, cond, ◌&&◌, eqb, ltb, leb, List, length, get_or, take, Ok, Err, Result, refl, ◌∙◌, ⊎_elim, arith, MatchResult}
 use Rattle.std.proofs.lemmas.List.{length-take-le, get_or-take}
-use Rattle.std.proofs.lemmas.Bool.{cond_both, cases_eq, and_parts, and_from, and_left, and_right, both_ways, leb-true, ltb-true, eqb-true, eqb-false, le-leb, lt-leb, lt-ltb, le-ltb}
+use Rattle.std.proofs.lemmas.Bool.{cond_both, cases_eq, and_parts, and_from, and_left, and_right, both_ways, leb-true, ltb-true, eqb-true, eqb-false, le-leb, lt-ltb}
 use Rattle.std.proofs.lemmas.Result.{MatchResult-at_ok, MatchResult-at_err}
 use Rattle.refusal.specs.declared.faults.TextFault.{TextFault}
 use Rattle.refusal.specs.declared.faults.TextFault.TheVariants.{Sum, Bounds, ShortArea, Literal}
@@ -10,15 +12,7 @@ use Rattle.aiger.specs.declared.header.Header.{Header}
 use Rattle.aiger.specs.Numbers.{needed, admitted, Admitted, Heads, Gates, Good, gate_literal}
 use Rattle.circuit.specs.Admission.{all_below, head_fits, gate_fits, heads_are_fit, gates_are_fit, refused, then_literals, judged}
 
-pub below_none : (p : ℕ → Bool) → all_below 0 p ≡ true
-unfolding all_below
-below_none p = refl
-
-pub below_more : (n : ℕ) (p : ℕ → Bool) → all_below n p ≡ true → p n ≡ true → all_below (n + 1) p ≡ true
-unfolding all_below
-below_more n p h here = rw add-one (and_from (all_below n p) (p n) h here)
-
-pub below_fails : (n k : ℕ) (p : ℕ → Bool) → k < n → p k ≡ false → all_below n p ≡ false
+below_fails : (n k : ℕ) (p : ℕ → Bool) → k < n → p k ≡ false → all_below n p ≡ false
 unfolding all_below
 below_fails zero k p l e = absurd (omega arith)
 below_fails (suc n) k p l e =
@@ -41,6 +35,13 @@ below_all : (n : ℕ) (p : ℕ → Bool) → ((k : ℕ) → k < n → p k ≡ tr
 unfolding all_below
 below_all zero p h = refl
 below_all (suc n) p h = and_from (all_below n p) (p n) (below_all n p (λ k l. h k (omega arith))) (h n (omega arith))
+
+-- the answer of a test of each element, as a test of each number below the length
+pub below_from_cases : {A : Type 0} (r : Bool) (xs : List A) (d : A) (n : ℕ) (p : ℕ → Bool) (Yes No : A → Type 0) → length xs ≡ n →
+    MatchBool r (AllWithin Yes xs 0 (length xs)) ((k : ℕ) × (k < length xs) × HoldsAt No xs k) →
+    ((k : ℕ) → k < n → Yes (get_or xs k d) → p k ≡ true) → ((k : ℕ) → k < n → No (get_or xs k d) → p k ≡ false) → r ≡ all_below n p
+below_from_cases true xs d n p Yes No size cases passes fails = sym (below_all n p (λ k l. passes k l (cases k d (omega arith) (omega arith))))
+below_from_cases false xs d n p Yes No size cases passes fails = let k< : cases.0 < n = omega (arith, cases.1) in sym (below_fails n cases.0 p k< (fails cases.0 k< (cases.2 d)))
 
 -- an answer is yes exactly where A holds
 abbrev Exact : {E : Type 0} → Type 0 → Result (Unit {0}) E → Type 0
@@ -105,31 +106,6 @@ good_from h area u e = MatchResult-at_ok (λ _. Good h area) (λ _. Good h area 
 
 pub not_good_from : (h : Header) (area : List ℕ) (f : TextRefusal) → judged h area ≡ Err f → Good h area → ⊥
 not_good_from h area f e = MatchResult-at_err (λ _. Good h area) (λ _. Good h area → ⊥) f e (judged_exact h area)
-
--- one gate's operands a and b, by their places in the area
-abbrev a_of : Header → List ℕ → ℕ → ℕ
-a_of h area j = get_or area (h.latches + h.outputs + 2 * j) 0
-
-abbrev b_of : Header → List ℕ → ℕ → ℕ
-b_of h area j = get_or area (h.latches + h.outputs + 2 * j + 1) 0
-
-b_is : (h : Header) (area : List ℕ) (j : ℕ) → get_or area (h.latches + h.outputs + (2 * j + 1)) 0 ≡ b_of h area j
-b_is h area j = let e : h.latches + h.outputs + (2 * j + 1) ≡ h.latches + h.outputs + 2 * j + 1 = omega arith in ap (λ (k : ℕ). get_or area k 0) e
-
-pub gate_fits_yes : (h : Header) (area : List ℕ) (j : ℕ) → a_of h area j < gate_literal h j → b_of h area j ≤ a_of h area j → gate_fits h area j ≡ true
-gate_fits_yes h area j p q =
-    let e = b_is h area j in
-    let b : ℕ = get_or area (h.latches + h.outputs + (2 * j + 1)) 0 in
-    and_from (ltb (a_of h area j) (gate_literal h j)) (leb b (a_of h area j)) (lt-ltb (a_of h area j) (gate_literal h j) p) (le-leb b (a_of h area j) (omega arith))
-
-pub gate_fits_no : (h : Header) (area : List ℕ) (j : ℕ) → (gate_literal h j ≤ a_of h area j) ⊎ (a_of h area j < b_of h area j) → gate_fits h area j ≡ false
-gate_fits_no h area j w =
-    let e = b_is h area j in
-    let b : ℕ = get_or area (h.latches + h.outputs + (2 * j + 1)) 0 in
-    ⊎_elim
-    (λ p. and_left (ltb (a_of h area j) (gate_literal h j)) (leb b (a_of h area j)) (le-ltb (a_of h area j) (gate_literal h j) p))
-    (λ (q : a_of h area j < b_of h area j). and_right (ltb (a_of h area j) (gate_literal h j)) (leb b (a_of h area j)) (lt-leb b (a_of h area j) (omega arith)))
-    w
 
 -- the area cut to what the circuit needs
 pub cut : (h : Header) (area : List ℕ) (n : ℕ) → n ≡ needed h → Good h area → Good h (take n area) × (length (take n area) ≡ needed h)

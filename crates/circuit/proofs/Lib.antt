@@ -1,4 +1,3 @@
 mod Judged
-mod Parts
 mod GateClauses
 mod Filling

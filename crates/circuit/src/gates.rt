@@ -3,10 +3,20 @@ ghost use Rattle.std.specs.Prelude.{◌≡◌, ◌/◌, ◌^◌, ◌<◌, [], le
 ghost use Rattle.machine.specs.Clauses.{listed};
 ghost use Rattle.machine.specs.Meaning.{lit};
 ghost use Rattle.machine.specs.Rows.{bits, byte};
+ghost use Rattle.aiger.specs.Numbers.{gate_literal};
 ghost use Rattle.aiger.specs.Evaluation.{clauses_of_gate};
 
+use aiger::Header;
 use machine::Clause;
 use resolution::deny;
+
+// The literal of a gate, counted from 0.
+pub(crate) fn gate_literal(header: Header, gate: usize) -> u32
+    requires { gate_literal header gate < 2 ^ 32 }
+    ensures { result ≡ gate_literal header gate }
+{
+    2 * (1 + header.given() + gate) as u32
+}
 
 // One of the three clauses of a gate with operands a and b, by its place among them.
 pub(crate) fn gate_clause(gate: u32, a: u32, b: u32, place: usize) -> Clause

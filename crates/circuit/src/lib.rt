@@ -9,7 +9,7 @@ ghost use Rattle.aiger.proofs.Law.{circuit_lawful};
 
 use admission::judge;
 use aiger::Header;
-use gates::{gate_clause, value};
+use gates::{gate_clause, gate_literal, value};
 use machine::{Clause, Machine, can_fill};
 use refusal::{DocketFault, TextRefusal};
 
@@ -49,10 +49,9 @@ impl<'a> Circuit<'a> {
             (λ _. (Good header area.now → ⊥) × (self.new ≡ self.old)) }
     {
         judge(header, area)?;
-        let needed = header.latches + header.outputs + 2 * header.gates;
         *self = Circuit {
             header,
-            area: &area[0..needed as usize],
+            area: &area[..header.needed()],
         };
         Ok(())
     }
@@ -84,59 +83,42 @@ impl<'a> Machine for Circuit<'a> {
     }
 
     fn start_bit(&self, bit: usize) -> Option<bool> {
-        if bit < self.header.latches as usize {
-            Some(false)
-        } else {
-            None
-        }
+        (bit < self.state_bits()).then_some(false)
     }
 
     fn next_literal(&self, bit: usize) -> Option<u32> {
-        if bit < self.header.latches as usize {
-            Some(self.area[bit])
-        } else {
-            None
-        }
+        self.area[..self.state_bits()].get(bit).copied()
     }
 
     fn rule_literal(&self, rule: usize) -> Option<u32> {
-        if rule < self.header.outputs as usize {
-            Some(self.area[self.header.latches as usize + rule])
-        } else {
-            None
-        }
+        self.area[self.state_bits()..self.header.heads()]
+            .get(rule)
+            .copied()
     }
 
     fn clause(&self, number: usize) -> Option<Clause> {
         if number == 0 {
             return Some(Clause::of(&[1]));
         }
-        let j = (number - 1) / 3;
-        if j >= self.header.gates as usize {
+        let gate = (number - 1) / 3;
+        if gate >= self.header.gates as usize {
             return None;
         }
-        let at = (self.header.latches + self.header.outputs) as usize + 2 * j;
-        let gate = 2 * (1 + self.header.inputs + self.header.latches + j as u32);
-        Some(gate_clause(gate, self.area[at], self.area[at + 1], (number - 1) % 3))
+        let at = self.header.heads() + 2 * gate;
+        let literal = gate_literal(self.header, gate);
+        Some(gate_clause(literal, self.area[at], self.area[at + 1], (number - 1) % 3))
     }
 
     fn fill(&self, row: &mut [u8]) -> Result<(), DocketFault> {
-        let Header {
-            maximum,
-            inputs,
-            latches,
-            ..
-        } = self.header;
-        if !can_fill(row, (inputs + latches) as usize, maximum as usize + 1) {
+        let given = self.header.given();
+        if !can_fill(row, given, self.variables()) {
             return Err(DocketFault::UnfitArea);
         }
-        let area = self.area;
-        let first = (self.header.latches + self.header.outputs) as usize;
-        let given = (1 + inputs + latches) as usize;
         row[0] = 0;
-        for j in 0..self.header.gates as usize {
-            let at = first + 2 * j;
-            row[given + j] = value(row, area[at]) & value(row, area[at + 1]);
+        // A gate reads what the gates before it wrote, so the row is filled place by place.
+        for gate in 0..self.header.gates as usize {
+            let at = self.header.heads() + 2 * gate;
+            row[1 + given + gate] = value(row, self.area[at]) & value(row, self.area[at + 1]);
         }
         Ok(())
     }

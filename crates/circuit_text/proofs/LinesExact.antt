@@ -7,12 +7,10 @@ use Rattle.circuit_text.specs.declared.line.LineKind.{LineKind}
 use Rattle.circuit_text.specs.declared.line.LineKind.TheVariants.{Input, Latch, Output, Gate}
 use Rattle.circuit_text.specs.declared.line.Line.{Line}
 use Rattle.circuit_text.specs.declared.line.Line.TheVariants.{Input as InputLine, Latch as LatchLine, Output as OutputLine, Gate as GateLine}
-use Rattle.circuit_text.specs.declared.line.Kept.{Kept}
-use Rattle.circuit_text.specs.declared.line.Kept.TheVariants.{Nothing, One, Two}
 use Rattle.circuit_text.specs.Chains.{carried}
 use Rattle.circuit_text.specs.Fields.{end_of_line, number_at, spaced_at}
 use Rattle.circuit_text.specs.Lines.{form_at, questioned, asked, line_at}
-use Rattle.circuit_text.specs.Sections.{listed, width}
+use Rattle.circuit_text.specs.Sections.{width}
 use Rattle.circuit_text.specs.Printed.{line, Entry, line_of, InRange, numbers}
 use Rattle.circuit_text.proofs.Chains.{came, carried_came}
 use Rattle.circuit_text.proofs.Places.{Here}
@@ -90,42 +88,42 @@ form_out Gate text at l end e =
     given Gate text at (GateLine g.0.0 a.0.0 b.0.0, z.0) (l, end) (refl, first_out text at g.0.0 g.0.1 (a.0.0 ∷ b.0.0 ∷ []) z.0 g.1 tail) z.2
 
 -- the questions were answered yes
-asked_out : (h : Header) (i : ℕ) (o : Option (Line × ℕ)) (k : Kept) (end : ℕ) → asked h i o ≡ Ok (k, end)
+asked_out : (h : Header) (i : ℕ) (o : Option (Line × ℕ)) (k : List ℕ) (end : ℕ) → asked h i o ≡ Ok (k, end)
     → (l : Line) × (o ≡ Some (l, end)) × (questioned h i l ≡ Ok k)
 asked_out h i None k end e = absurd (let z : ◌≡◌ {A = ℕ} 0 1 = cc in omega arith)
 asked_out h i (Some p) k end e =
     let q = carried_came (questioned h i p.0) (λ kept. Ok (kept, p.1)) (k, end) e in
-    let both : ◌≡◌ {A = Kept × ℕ} (q.0, p.1) (k, end) = cc q.2 in
-    (p.0, ap (λ (r : Kept × ℕ). Some (p.0, r.1)) both, q.1 ∙ ap (λ (r : Kept × ℕ). Ok r.0) both)
+    let both : ◌≡◌ {A = List ℕ × ℕ} (q.0, p.1) (k, end) = cc q.2 in
+    (p.0, ap (λ (r : List ℕ × ℕ). Some (p.0, r.1)) both, q.1 ∙ ap (λ (r : List ℕ × ℕ). Ok r.0) both)
 
 -- the entry of a line that was answered yes
-abbrev Told : Header → (kind : LineKind) → ℕ → Line → Kept → Type 0
-Told h kind i l k = (x : Entry kind) × InRange h kind i x × (written l ≡ line_of h kind i x) × (listed k ≡ numbers kind x)
+abbrev Told : Header → (kind : LineKind) → ℕ → Line → List ℕ → Type 0
+Told h kind i l k = (x : Entry kind) × InRange h kind i x × (written l ≡ line_of h kind i x) × (k ≡ numbers kind x)
 
-questioned_out : (h : Header) (i : ℕ) (l : Line) (k : Kept) → questioned h i l ≡ Ok k → Told h (kind_of l) i l k
+questioned_out : (h : Header) (i : ℕ) (l : Line) (k : List ℕ) → questioned h i l ≡ Ok k → Told h (kind_of l) i l k
 questioned_out h i (InputLine n) k e =
     let own : n ≡ 2 * (1 + i) = grind (arith, nat_tests) in
-    let kept : k ≡ Nothing = grind (arith, nat_tests) in
-    (tt, tt, ap (λ (m : ℕ). line m []) own, ap listed kept)
+    let kept : k ≡ [] = grind (arith, nat_tests) in
+    (tt, tt, ap (λ (m : ℕ). line m []) own, kept)
 questioned_out h i (LatchLine n x) k e =
     let own : n ≡ 2 * (1 + h.inputs + i) = grind (arith, nat_tests) in
     let low : x ≤ 2 * h.maximum + 1 = grind (arith, nat_tests) in
-    let kept : k ≡ One x = grind (arith, nat_tests) in
-    (x, low, ap (λ (m : ℕ). line m (x ∷ [])) own, ap listed kept)
+    let kept : k ≡ x ∷ [] = grind (arith, nat_tests) in
+    (x, low, ap (λ (m : ℕ). line m (x ∷ [])) own, kept)
 questioned_out h i (OutputLine x) k e =
     let low : x ≤ 2 * h.maximum + 1 = grind (arith, nat_tests) in
-    let kept : k ≡ One x = grind (arith, nat_tests) in
-    (x, low, refl, ap listed kept)
+    let kept : k ≡ x ∷ [] = grind (arith, nat_tests) in
+    (x, low, refl, kept)
 questioned_out h i (GateLine g a b) k e =
     let own : g ≡ 2 * (1 + h.inputs + h.latches + i) = grind (arith, nat_tests) in
     let below : a < g = grind (arith, nat_tests) in
     let order : b ≤ a = grind (arith, nat_tests) in
-    let kept : k ≡ Two a b = grind (arith, nat_tests) in
-    ((a, b), (omega arith, order), ap (λ (m : ℕ). line m (a ∷ b ∷ [])) own, ap listed kept)
+    let kept : k ≡ a ∷ b ∷ [] = grind (arith, nat_tests) in
+    ((a, b), (omega arith, order), ap (λ (m : ℕ). line m (a ∷ b ∷ [])) own, kept)
 
 -- a line that is read stands in the text
-pub line_out : (h : Header) (kind : LineKind) (i : ℕ) (text : List ℕ) (at : ℕ) (k : Kept) (end : ℕ) → line_at h kind i text at ≡ Ok (k, end)
-    → (x : Entry kind) × InRange h kind i x × Here text at (line_of h kind i x) end × (listed k ≡ numbers kind x)
+pub line_out : (h : Header) (kind : LineKind) (i : ℕ) (text : List ℕ) (at : ℕ) (k : List ℕ) (end : ℕ) → line_at h kind i text at ≡ Ok (k, end)
+    → (x : Entry kind) × InRange h kind i x × Here text at (line_of h kind i x) end × (k ≡ numbers kind x)
 unfolding line_at
 line_out h kind i text at k end e =
     let a = asked_out h i (form_at kind text at) k end e in
@@ -140,29 +138,29 @@ numbers_width Output x = refl
 numbers_width Gate x = refl
 
 -- a line of a kind keeps as many numbers as it should
-pub kept_width : (h : Header) (kind : LineKind) (i : ℕ) (text : List ℕ) (at : ℕ) (k : Kept) (end : ℕ) → line_at h kind i text at ≡ Ok (k, end) → length (listed k) ≡ width kind
+pub kept_width : (h : Header) (kind : LineKind) (i : ℕ) (text : List ℕ) (at : ℕ) (k : List ℕ) (end : ℕ) → line_at h kind i text at ≡ Ok (k, end) → length k ≡ width kind
 kept_width h kind i text at k end e =
     let o = line_out h kind i text at k end e in
     ap length o.3 ∙ numbers_width kind o.0
 
 -- a line that stands in the text is read
 module _ (h : Header) (i : ℕ) (text : List ℕ) (at end : ℕ) (low : h.maximum ≤ 16383) (few : h.inputs + h.latches + i < 2 ^ 20) where
-  answered : (l : Line) (k : Kept) → Short l → Here text at (written l) end → questioned h i l ≡ Ok k → line_at h (kind_of l) i text at ≡ Ok (k, end)
+  answered : (l : Line) (k : List ℕ) → Short l → Here text at (written l) end → questioned h i l ≡ Ok k → line_at h (kind_of l) i text at ≡ Ok (k, end)
   unfolding line_at
   answered l k short here granted =
-      ap (asked h i) (form_in text at l end short here) ∙ ap (λ (r : Result Kept TextFault). carried r (λ kept. Ok (kept, end))) granted
+      ap (asked h i) (form_in text at l end short here) ∙ ap (λ (r : Result (List ℕ) TextFault). carried r (λ kept. Ok (kept, end))) granted
 
   pub line_in : (kind : LineKind) (x : Entry kind) → InRange h kind i x → Here text at (line_of h kind i x) end
-      → (k : Kept) × (line_at h kind i text at ≡ Ok (k, end)) × (listed k ≡ numbers kind x)
+      → (k : List ℕ) × (line_at h kind i text at ≡ Ok (k, end)) × (k ≡ numbers kind x)
   line_in Input x range here =
-      (Nothing, answered (InputLine (2 * (1 + i))) Nothing (omega arith) here (grind (arith, nat_tests)), refl)
+      ([], answered (InputLine (2 * (1 + i))) [] (omega arith) here (grind (arith, nat_tests)), refl)
   line_in Latch x range here =
-      (One x, answered (LatchLine (2 * (1 + h.inputs + i)) x) (One x) (omega arith, omega arith) here (grind (arith, nat_tests)), refl)
+      (x ∷ [], answered (LatchLine (2 * (1 + h.inputs + i)) x) (x ∷ []) (omega arith, omega arith) here (grind (arith, nat_tests)), refl)
   line_in Output x range here =
-      (One x, answered (OutputLine x) (One x) (omega arith) here (grind (arith, nat_tests)), refl)
+      (x ∷ [], answered (OutputLine x) (x ∷ []) (omega arith) here (grind (arith, nat_tests)), refl)
   line_in Gate x range here = (
-    Two x.0 x.1,
-    answered (GateLine (2 * (1 + h.inputs + h.latches + i)) x.0 x.1) (Two x.0 x.1) (omega arith, omega arith, omega arith) here
+    x.0 ∷ x.1 ∷ [],
+    answered (GateLine (2 * (1 + h.inputs + h.latches + i)) x.0 x.1) (x.0 ∷ x.1 ∷ []) (omega arith, omega arith, omega arith) here
         (grind (arith, nat_tests)),
     refl,
   )

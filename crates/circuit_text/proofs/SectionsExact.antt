@@ -5,9 +5,8 @@ use Rattle.std.specs.List.{flat_map}
 use Rattle.refusal.specs.declared.faults.TextFault.{TextFault}
 use Rattle.aiger.specs.declared.header.Header.{Header}
 use Rattle.circuit_text.specs.declared.line.LineKind.{LineKind}
-use Rattle.circuit_text.specs.declared.line.Kept.{Kept}
 use Rattle.circuit_text.specs.Lines.{line_at}
-use Rattle.circuit_text.specs.Sections.{listed, Read, lines_on}
+use Rattle.circuit_text.specs.Sections.{Read, lines_on}
 use Rattle.circuit_text.specs.Printed.{Entry, line_of, numbers, lines, AllInRange}
 use Rattle.circuit_text.proofs.Places.{Here, here_none, here_join, here_split}
 use Rattle.circuit_text.proofs.LinesExact.{line_in, line_out}
@@ -23,13 +22,13 @@ module _ (h : Header) (kind : LineKind) (text : List ℕ) where
   lines_in (x ∷ xs) i at end got low few range here =
       let s = here_split text at (line_of h kind i x) (lines h kind (i + 1) xs) end here in
       let l = line_in h i text at s.0 low (omega arith) kind x range.0 s.1 in
-      let next = lines_in xs (i + 1) s.0 end (got ++ listed l.0) low (omega arith) range.1 s.2 in
+      let next = lines_in xs (i + 1) s.0 end (got ++ l.0) low (omega arith) range.1 s.2 in
       lines_step h kind text (suc (length xs)) (length xs) i (got, at) (Ok (l.0, s.0)) refl l.1
-      ∙ (next ∙ ap (λ (ns : List ℕ). Ok (ns, end)) (append_assoc got (listed l.0) (flat_map (numbers kind) xs) ∙ ap (λ (ns : List ℕ). got ++ (ns ++ flat_map (numbers kind) xs)) l.2))
+      ∙ (next ∙ ap (λ (ns : List ℕ). Ok (ns, end)) (append_assoc got l.0 (flat_map (numbers kind) xs) ∙ ap (λ (ns : List ℕ). got ++ (ns ++ flat_map (numbers kind) xs)) l.2))
 
   -- what came before lines that were read
-  after_came : (n i : ℕ) (r : Read) (o : Result (Kept × ℕ) TextFault) (y : Read) → after h kind text n i r o ≡ Ok y
-      → (l : Kept × ℕ) × (o ≡ Ok l) × (lines_on h kind text n (i + 1) (r.0 ++ listed l.0, l.1) ≡ Ok y)
+  after_came : (n i : ℕ) (r : Read) (o : Result (List ℕ × ℕ) TextFault) (y : Read) → after h kind text n i r o ≡ Ok y
+      → (l : List ℕ × ℕ) × (o ≡ Ok l) × (lines_on h kind text n (i + 1) (r.0 ++ l.0, l.1) ≡ Ok y)
   after_came n i r (Ok l) y e = (l, refl, e)
   after_came n i r (Err f) y e = absurd (let z : ◌≡◌ {A = ℕ} 0 1 = cc in omega arith)
 
@@ -47,10 +46,10 @@ module _ (h : Header) (kind : LineKind) (text : List ℕ) where
       let k = a.0.0 in
       let mid = a.0.1 in
       let l = line_out h kind i text at k mid a.1 in
-      let s = lines_out n (i + 1) mid end (got ++ listed k) ns a.2 in (
+      let s = lines_out n (i + 1) mid end (got ++ k) ns a.2 in (
         l.0 ∷ s.0,
         ap suc s.1,
         (l.1, s.2),
         here_join text at (line_of h kind i l.0) mid (lines h kind (i + 1) s.0) end l.2 s.3,
-        s.4 ∙ (append_assoc got (listed k) (flat_map (numbers kind) s.0) ∙ ap (λ (l : List ℕ). got ++ (l ++ flat_map (numbers kind) s.0)) l.3),
+        s.4 ∙ (append_assoc got k (flat_map (numbers kind) s.0) ∙ ap (λ (l : List ℕ). got ++ (l ++ flat_map (numbers kind) s.0)) l.3),
       )

@@ -1,6 +1,8 @@
 -- The first line, then the sections.
-use Rattle.std.proofs.Common.{◌≡◌, ℕ, ◌-◌, ◌≤◌, List, ◌++◌, length, take, drop, replicate, Ok, Err, Result, sym, ap, ◌∙◌, arith}
+use Rattle.std.proofs.Common.{◌≡◌, ℕ, ◌-◌, ◌≤◌, List, ◌++◌, length, take, drop, replicate, Ok, Err, Result, true, false, MatchResult, sym, ap, ◌∙◌, arith}
 use Rattle.std.proofs.lemmas.List.{take-append-drop, drop-replicate, length-take-le}
+use Rattle.std.proofs.lemmas.Bool.{false≢true, true≢false}
+use Rattle.std.specs.Result.{is_err}
 use Rattle.refusal.specs.declared.faults.TextRefusal.{TextRefusal}
 use Rattle.aiger.specs.Numbers.{needed}
 use Rattle.aiger.specs.declared.header.Header.{Header}
@@ -37,8 +39,19 @@ pub area_filled : (circuit : Result (Header × List ℕ) TextRefusal) (h : Heade
 area_filled circuit h old new size f clear =
     zeros_after (needed h) size old new f.room f.rest clear ∙ sym (ap (area_of size) f.stored)
 
--- after a refusal the area is clear
-pub refused_as : (circuit : Result (Header × List ℕ) TextRefusal) (e : TextRefusal) (size n : ℕ) (r : Result Header TextRefusal) (area : List ℕ)
-    → circuit ≡ Err e → r ≡ Err e → area ≡ replicate n 0 → n ≡ size → (r ≡ answer_of circuit) × (area ≡ area_of size circuit)
-refused_as circuit e size n r area refused answer clear same =
-    (answer ∙ sym (ap answer_of refused), clear ∙ (ap (λ (k : ℕ). replicate k 0) same ∙ sym (ap (area_of size) refused)))
+-- what a filled area answers, and what it holds then: the circuit, or after a refusal what it is cleared to
+module _ (circuit : Result (Header × List ℕ) TextRefusal) (old new : List ℕ) where
+  abbrev Filled : Result Header TextRefusal → Type 0
+  Filled r = MatchResult r (λ h. Fills circuit h old new) (λ e. circuit ≡ Err e)
+
+  pub answer_is : (r : Result Header TextRefusal) → Filled r → r ≡ answer_of circuit
+  answer_is (Ok h) f = sym (ap answer_of f.stored)
+  answer_is (Err e) refused = sym (ap answer_of refused)
+
+  pub area_kept : (r : Result Header TextRefusal) (size : ℕ) → is_err r ≡ false → Filled r → old ≡ replicate size 0 → new ≡ area_of size circuit
+  area_kept (Ok h) size ok f clear = area_filled circuit h old new size f clear
+  area_kept (Err e) size ok f clear = absurd (true≢false ok)
+
+  pub area_cleared : (r : Result Header TextRefusal) (size : ℕ) → is_err r ≡ true → Filled r → replicate size 0 ≡ area_of size circuit
+  area_cleared (Ok h) size err f = absurd (false≢true err)
+  area_cleared (Err e) size err refused = sym (ap (area_of size) refused)

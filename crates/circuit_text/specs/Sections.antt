@@ -1,21 +1,13 @@
 -- The sections of a circuit's text: the lines of each kind, and the numbers that the area keeps of them.
-use Rattle.std.specs.Prelude.{◌≡◌, ℕ, zero, suc, ◌+◌, List, [], ◌∷◌, ◌++◌, take, drop, Ok, Err, Result}
+use Rattle.std.specs.Prelude.{◌≡◌, ℕ, zero, suc, ◌+◌, List, [], ◌++◌, take, drop, Ok, Err, Result}
 use Rattle.refusal.specs.declared.faults.TextRefusal.{TextRefusal}
 use Rattle.aiger.specs.declared.header.Header.{Header}
 use Rattle.circuit_text.specs.declared.line.LineKind.{LineKind}
 use Rattle.circuit_text.specs.declared.line.LineKind.TheVariants.{Input, Latch, Output, Gate}
-use Rattle.circuit_text.specs.declared.line.Kept.{Kept}
-use Rattle.circuit_text.specs.declared.line.Kept.TheVariants.{Nothing, One, Two}
 use Rattle.circuit_text.specs.Chains.{carried}
 use Rattle.circuit_text.specs.Lines.{line_at}
 
--- the numbers that the area keeps of a line
-abbrev pub listed : Kept → List ℕ
-listed Nothing = []
-listed (One a) = a ∷ []
-listed (Two a b) = a ∷ b ∷ []
-
--- how many these are
+-- how many numbers the area keeps of a line of a kind
 abbrev pub width : LineKind → ℕ
 width Input = 0
 width Latch = 1
@@ -38,7 +30,7 @@ unfoldable pub lines_on : Header → LineKind → List ℕ → ℕ → ℕ → R
 lines_on h kind text zero i r = Ok r
 lines_on h kind text (suc n) i r =
     elim (line_at h kind i text r.1) [
-      | Ok l ↦ lines_on h kind text n (i + 1) (r.0 ++ listed l.0, l.1)
+      | Ok l ↦ lines_on h kind text n (i + 1) (r.0 ++ l.0, l.1)
       | Err f ↦ Err record { fault = f; offset = r.1 }
     ]
 

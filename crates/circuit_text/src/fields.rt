@@ -3,14 +3,11 @@ ghost use Rattle.std.specs.Prelude.{◌≡◌};
 ghost use Rattle.circuit_text.specs.Fields.{end_of_byte, end_of_line, number_at, spaced_at};
 
 // The place after `byte`, if that stands at `at`.
+#[tactic(auto, unfolding(crate::specs::Fields::end_of_byte))]
 fn after_byte(text: &[u8], at: usize, byte: u8) -> Option<usize>
     ensures { result ≡ end_of_byte byte text.now at }
 {
-    if at < text.len() && text[at] == byte {
-        Some(at + 1)
-    } else {
-        None
-    }
+    (*text.get(at)? == byte).then_some(at + 1)
 }
 
 // The place after the end of a line.
@@ -21,18 +18,16 @@ pub(crate) fn after_line(text: &[u8], at: usize) -> Option<usize>
 }
 
 // A number of at most seven digits, and the place after it.
+#[tactic(auto, unfolding(crate::specs::Fields::number_at))]
 pub(crate) fn number(text: &[u8], at: usize) -> Option<(u32, usize)>
     ensures { result ≡ number_at text.now at }
 {
     let (value, size) = decimal::number(text, at)?;
-    if value < 10_000_000 {
-        Some((value, at + size))
-    } else {
-        None
-    }
+    (value < 10_000_000).then_some((value, at + size))
 }
 
 // One space, then a number.
+#[tactic(auto, unfolding(crate::specs::Fields::spaced_at))]
 pub(crate) fn spaced(text: &[u8], at: usize) -> Option<(u32, usize)>
     ensures { result ≡ spaced_at text.now at }
 {

@@ -1,7 +1,7 @@
 // Reads a circuit from AIGER text into an area of numbers that a caller lends.
 #![tactic(auto)]
 
-ghost use Rattle.std.specs.Prelude.{◌≡◌, ℕ, List, length, replicate, IfOk, Ok, Err, MatchResult};
+ghost use Rattle.std.specs.Prelude.{◌≡◌, ℕ, List, length, IfOk, Ok, Err, MatchResult};
 ghost use Rattle.aiger.specs.Numbers.{Good};
 ghost use Rattle.circuit_text.specs.Texts.{circuit_of, answer_of, area_of, Fills};
 ghost use Rattle.circuit_text.specs.Printed.{Prints};
@@ -16,7 +16,7 @@ mod section;
 #[cfg(test)]
 mod tests;
 
-pub(crate) use line::{Kept, LineKind};
+pub(crate) use line::LineKind;
 
 // Reads the circuit into a cleared area; after a refusal the area may hold a part of it.
 fn fill(text: &[u8], area: &mut [u32]) -> Result<Header, TextRefusal>
@@ -29,15 +29,6 @@ fn fill(text: &[u8], area: &mut [u32]) -> Result<Header, TextRefusal>
     Ok(header)
 }
 
-// Clears an area that may hold a part of a circuit, and passes the refusal on.
-fn refuse(partial: &mut [u32], refusal: TextRefusal) -> Result<Header, TextRefusal>
-    ensures value { result ≡ Err refusal }
-    ensures area { partial.new ≡ replicate (length partial.old) 0 }
-{
-    areas::clear(partial);
-    Err(refusal)
-}
-
 // Reads the circuit that the text begins with: its header is answered, its numbers fill the area.
 pub fn read(text: &[u8], area: &mut [u32]) -> Result<Header, TextRefusal>
     ensures value { result ≡ answer_of (circuit_of text.now (length area.old)) }
@@ -48,8 +39,9 @@ pub fn read(text: &[u8], area: &mut [u32]) -> Result<Header, TextRefusal>
         → (result ≡ Ok h) × (area.new ≡ held) }
 {
     areas::clear(area);
-    match fill(text, area) {
-        Ok(header) => Ok(header),
-        Err(refusal) => refuse(area, refusal),
+    let answer = fill(text, area);
+    if answer.is_err() {
+        areas::clear(area);
     }
+    answer
 }

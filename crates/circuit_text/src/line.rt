@@ -1,9 +1,11 @@
 // One line of a circuit's text, and the questions put to it.
-ghost use Rattle.std.specs.Prelude.{◌≡◌, ◌+◌, ◌^◌, ◌<◌, ◌≤◌, if◌then◌else◌, Ok, Err};
+ghost use Rattle.std.specs.Prelude.{◌≡◌, ◌+◌, ◌^◌, ◌<◌, ◌≤◌, [], ◌∷◌, if◌then◌else◌, Ok, Err};
+ghost use Rattle.std.specs.Result.{result_map_both};
 ghost use Rattle.circuit_text.specs.Lines.{form_at, questioned, line_at};
 
 use crate::fields;
 use aiger::Header;
+use arrayvec::ArrayVec;
 use refusal::TextFault;
 
 #[derive(Clone, Copy)]
@@ -23,12 +25,16 @@ pub(crate) enum Line {
     Gate(u32, u32, u32),
 }
 
-// What the area keeps of a line.
-#[derive(Clone, Copy)]
-pub(crate) enum Kept {
-    Nothing,
-    One(u32),
-    Two(u32, u32),
+// The numbers that the area keeps of a line: at most two.
+pub(crate) type Kept = ArrayVec<u32, 2>;
+
+// One number to keep.
+fn one(literal: u32) -> Kept
+    ensures { result.items ≡ literal ∷ [] }
+{
+    let mut kept = Kept::new();
+    kept.push(literal);
+    kept
 }
 
 // The numbers of a line of a kind, and where the next line begins.
@@ -55,43 +61,44 @@ fn in_form(text: &[u8], at: usize, kind: LineKind) -> Option<(Line, usize)>
 fn ask(answer: bool, fault: TextFault) -> Result<(), TextFault>
     ensures { result ≡ (if answer then Ok tt else Err fault) }
 {
-    if answer { Ok(()) } else { Err(fault) }
+    answer.then_some(()).ok_or(fault)
 }
 
 impl Line {
     // The questions on the numbers of line `index`, counted from 0 among those of its kind.
     fn question(self, header: &Header, index: u32) -> Result<Kept, TextFault>
         requires { (header.now.maximum ≤ 16383) × (header.now.inputs + header.now.latches + index < 2 ^ 20) }
-        ensures { result ≡ questioned header.now index self }
+        ensures { result_map_both (λ kept. kept.items) (λ fault. fault) result ≡ questioned header.now index self }
     {
         let greatest = 2 * header.maximum + 1;
         match self {
             Line::Input(literal) => {
                 ask(literal == 2 * (1 + index), TextFault::FirstNumber)?;
-                Ok(Kept::Nothing)
+                Ok(Kept::new())
             }
             Line::Latch(literal, next) => {
                 let own = 2 * (1 + header.inputs + index);
                 ask(literal == own, TextFault::FirstNumber)?;
                 ask(next <= greatest, TextFault::Literal)?;
-                Ok(Kept::One(next))
+                Ok(one(next))
             }
             Line::Output(literal) => {
                 ask(literal <= greatest, TextFault::Literal)?;
-                Ok(Kept::One(literal))
+                Ok(one(literal))
             }
             Line::Gate(gate, a, b) => {
                 let own = 2 * (1 + header.inputs + header.latches + index);
                 ask(gate == own, TextFault::FirstNumber)?;
                 ask(a < gate, TextFault::Literal)?;
                 ask(b <= a, TextFault::Literal)?;
-                Ok(Kept::Two(a, b))
+                Ok(Kept::from([a, b]))
             }
         }
     }
 }
 
 // Reads line `index` of a kind at `at`: what the area keeps of it, and where the next line begins.
+#[tactic(auto, unfolding(crate::specs::Lines::line_at))]
 pub(crate) fn read_line(
     text: &[u8],
     at: usize,
@@ -100,10 +107,8 @@ pub(crate) fn read_line(
     index: u32,
 ) -> Result<(Kept, usize), TextFault>
     requires { (header.now.maximum ≤ 16383) × (header.now.inputs + header.now.latches + index < 2 ^ 20) }
-    ensures { result ≡ line_at header.now kind index text.now at }
+    ensures { result_map_both (λ p. (p.0.items, p.1)) (λ fault. fault) result ≡ line_at header.now kind index text.now at }
 {
-    let Some((line, next)) = in_form(text, at, kind) else {
-        return Err(TextFault::Form);
-    };
+    let (line, next) = in_form(text, at, kind).ok_or(TextFault::Form)?;
     Ok((line.question(header, index)?, next))
 }

@@ -44,14 +44,7 @@ pub(crate) fn opening(text: &[u8], size: usize) -> Result<(Header, usize), TextR
     ensures value { result ≡ opening_of text.now size }
     ensures admitted { IfOk result (λ p. Admitted p.0 size) }
 {
-    let Some((header, start)) = header_line(text) else {
-        return Err(TextRefusal {
-            fault: TextFault::Header,
-            offset: 0,
-        });
-    };
-    match header.admit(size) {
-        Ok(()) => Ok((header, start)),
-        Err(fault) => Err(TextRefusal { fault, offset: 0 }),
-    }
+    let (header, start) = header_line(text).ok_or(TextFault::Header.at(0))?;
+    header.admit(size).map_err(|fault| fault.at(0))?;
+    Ok((header, start))
 }

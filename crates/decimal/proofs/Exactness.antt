@@ -5,7 +5,8 @@ use Rattle.std.proofs.lemmas.Bool.Decides.{nat_tests}
 use Rattle.std.proofs.lemmas.List.{get_or_append_left}
 use Rattle.std.proofs.lemmas.Str.Parse.{IsNumeralModel, numerals_by_fold}
 use Rattle.std.proofs.lemmas.Fmt.{digits_decimal, digits_value-decimal, decimal_nonempty, first_decimal, decimal_digit, decimal-digits_value}
-use Rattle.decimal.specs.Number.{is_digit, leading, value_on, plain, number_of, Stops, Number}
+use Rattle.std.specs.Bool.{then_some}
+use Rattle.decimal.specs.Number.{is_digit, leading, value_on, fitting, plain, number_of, Stops, Number}
 
 abbrev digits : List ℕ → Bool
 digits [] = true
@@ -88,3 +89,21 @@ number_written text n k e =
       fits = omega (arith, b.0, b.3);
       stops = p.3;
     }
+
+-- what is asked of the digits that lead
+pub number_none : None ≡ number_of []
+unfolding number_of
+number_none = refl
+
+pub number_unfit : (text : List ℕ) → None ≡ fitting (leading text) → None ≡ number_of text
+unfolding number_of
+number_unfit text e = grind (arith, nat_tests, e)
+
+pub number_asked : (text : List ℕ) (first v k : ℕ) → first ≡ get_or text 0 0 → Some (v, k) ≡ fitting (leading text) → then_some (plain first k) (v, k) ≡ number_of text
+unfolding number_of
+number_asked text first v k f e = grind (arith, nat_tests, f, e)
+
+-- the three clauses, from the first
+pub clauses : (text : List ℕ) (r : Option (ℕ × ℕ)) → r ≡ number_of text →
+    (r ≡ number_of text) × ((n k : ℕ) → r ≡ Some (n, k) → Number text n k) × ((n k : ℕ) → Number text n k → r ≡ Some (n, k))
+clauses text r v = (v, λ n k e. number_written text n k (sym v ∙ e), λ n k s. v ∙ number_reads text n k s)

@@ -7,19 +7,24 @@ ghost use Rattle.decimal.specs.Number.{leading, fitting, plain, number_of, Numbe
 #[cfg(test)]
 mod tests;
 
-// The value and the count of the digits from `at` on, where the value fits.
-fn digits(text: &[u8], at: usize) -> Option<(u32, usize)>
-    requires { at ≤ length text.now }
-    ensures { result ≡ fitting (leading (drop at text.now)) }
+// The digits that the text begins with.
+fn leading_digits(text: &[u8]) -> &[u8]
+    ensures { result.now ≡ leading text.now }
 {
+    let size = text.iter().take_while(|byte| byte.is_ascii_digit()).count();
+    &text[..size]
+}
+
+// The value and the count of the digits that the text begins with, where the value fits.
+fn digits(text: &[u8]) -> Option<(u32, usize)>
+    ensures { result ≡ fitting (leading text.now) }
+{
+    let digits = leading_digits(text);
     let mut value: u32 = 0;
-    let mut end = at;
-    while end < text.len() && text[end] >= b'0' && text[end] <= b'9' {
-        let tens = value.checked_mul(10)?;
-        value = tens.checked_add(u32::from(text[end] - b'0'))?;
-        end += 1;
+    for digit in digits {
+        value = value.checked_mul(10)?.checked_add(u32::from(digit - b'0'))?;
     }
-    Some((value, end - at))
+    Some((value, digits.len()))
 }
 
 // No zero stands in front of other digits.
@@ -35,13 +40,8 @@ pub fn number(text: &[u8], at: usize) -> Option<(u32, usize)>
     ensures written { (n k : ℕ) → result ≡ Some (n, k) → Number (drop at text.now) n k }
     ensures reads { (n k : ℕ) → Number (drop at text.now) n k → result ≡ Some (n, k) }
 {
-    if at >= text.len() {
-        return None;
-    }
-    let (value, size) = digits(text, at)?;
-    if is_plain(text[at], size) {
-        Some((value, size))
-    } else {
-        None
-    }
+    let rest = text.get(at..)?;
+    let first = *rest.first()?;
+    let (value, size) = digits(rest)?;
+    is_plain(first, size).then_some((value, size))
 }

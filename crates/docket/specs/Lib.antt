@@ -3,3 +3,4 @@ pub mod Books
 pub mod Reached
 pub mod Histories
 pub mod Law
+pub mod Texts

@@ -1,6 +1,6 @@
 // What a docket holds of its machine's rules.
 ghost use Rattle.std.specs.Prelude.{◌≡◌, ◌<◌, true, false, OnOk, nat_lt, slice_index_or};
-ghost use Rattle.docket.specs.Books.{Sound, most, claimed, noted, struck, if_entered};
+ghost use Rattle.docket.specs.Books.{Sound, most, claimed, fresh, noted, struck, if_entered};
 ghost use Rattle.docket.specs.declared.book.Standing.TheVariants.{Open};
 
 use checking::{Accepted, Claim};
@@ -18,7 +18,7 @@ pub enum Standing {
 }
 
 // How many hand ins were counted, how many of them accepted and refused, and how many strikes were granted.
-#[derive(Clone, Copy, PartialEq, Eq, Debug)]
+#[derive(Clone, Copy, Default, PartialEq, Eq, Debug)]
 pub struct Tally {
     pub handed_in: u32,
     pub accepted: u32,
@@ -34,17 +34,30 @@ pub struct Account {
     pub tally: Tally,
 }
 
+// What a docket keeps of the calls made on it.
 #[derive(Clone, Copy)]
 pub struct Book {
     pub(crate) standings: [Standing; 32],
     pub(crate) tally: Tally,
 }
 
-impl Standing {
-    // What a claim says of its rule.
-    pub(crate) fn claimed(claim: Claim) -> Standing
-        ensures { result ≡ claimed claim }
-    {
+// A fresh book: every rule open, all counts 0.
+impl Default for Book {
+    ghost is_default = { λ b. b ≡ fresh };
+
+    fn default() -> Book {
+        Book {
+            standings: [Standing::Open; 32],
+            tally: Tally::default(),
+        }
+    }
+}
+
+// What a claim says of its rule.
+impl From<Claim> for Standing {
+    ghost from_gives = { λ c s. s ≡ claimed c };
+
+    fn from(claim: Claim) -> Standing {
         match claim {
             Claim::Trace | Claim::Induction => Standing::Kept,
             Claim::Counterexample => Standing::Broken,
@@ -69,34 +82,29 @@ impl Book {
     {
         match res {
             Ok(accepted) => {
-                self.standings[rule as usize] = Standing::claimed(accepted.claim);
+                self.standings[rule as usize] = accepted.claim.into();
                 self.tally.accepted += 1;
             }
-            Err(_) => {
-                self.tally.refused += 1;
-            }
+            Err(_) => self.tally.refused += 1,
         }
         self.tally.handed_in += 1;
     }
 
-    // Whether the rule is not open.
-    pub(crate) fn is_entered(&self, rule: u32) -> bool
-        requires inside { rule < 32 }
-        ensures { result ≡ if_entered (slice_index_or self.now.standings rule Open) true false }
+    // Whether the rule in a place is not open.
+    pub(crate) fn is_entered(&self, place: usize) -> bool
+        requires inside { place < 32 }
+        ensures { result ≡ if_entered (slice_index_or self.now.standings place Open) true false }
     {
-        match self.standings[rule as usize] {
-            Standing::Open => false,
-            Standing::Kept | Standing::Broken => true,
-        }
+        self.standings[place] != Standing::Open
     }
 
-    // Makes a rule open.
-    pub(crate) fn strike_out(&mut self, rule: u32)
+    // Makes the rule in a place open.
+    pub(crate) fn strike_out(&mut self, place: usize)
         requires sound { Sound self.old }
-        requires inside { rule < 32 }
-        ensures { self.new ≡ struck rule self.old }
+        requires inside { place < 32 }
+        ensures { self.new ≡ struck place self.old }
     {
-        self.standings[rule as usize] = Standing::Open;
+        self.standings[place] = Standing::Open;
         self.tally.struck += 1;
     }
 }

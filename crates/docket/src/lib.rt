@@ -1,7 +1,8 @@
 // Dockets: what the lawful certificates handed in have shown of a machine's rules.
 #![tactic(auto)]
 
-ghost use Rattle.std.specs.Prelude.{◌≡◌, List, [], length, replicate};
+ghost use Rattle.std.specs.Prelude.{◌≡◌, List, [], length, replicate, nat_lt, if◌then◌else◌};
+ghost use Rattle.refusal.specs.declared.faults.DocketFault.TheVariants.{NoRule};
 ghost use Rattle.docket.specs.Books.{Sound, answer, after, accounted};
 ghost use Rattle.docket.specs.Calls.{Made, handing, look_up, tally, strike};
 ghost use Rattle.docket.specs.Law.{Law};
@@ -15,6 +16,7 @@ use refusal::{DocketFault, Refusal};
 use stack::Span;
 
 mod book;
+mod texts;
 
 pub use book::{Account, Standing, Tally};
 
@@ -34,15 +36,7 @@ impl<'m, M: Machine> Docket<'m, M> {
     {
         Docket {
             machine,
-            book: Book {
-                standings: [Standing::Open; 32],
-                tally: Tally {
-                    handed_in: 0,
-                    accepted: 0,
-                    refused: 0,
-                    struck: 0,
-                },
-            },
+            book: Book::default(),
         }
     }
 
@@ -74,15 +68,24 @@ impl<'m, M: Machine> Docket<'m, M> {
         result
     }
 
+    // The place of a rule in the book, if the machine has that rule.
+    fn place(&self, rule: u32) -> Result<usize, DocketFault>
+        ensures { result ≡ (if nat_lt rule (M.meaning self.now.machine.now).rules then Ok rule else Err NoRule) }
+    {
+        let place = rule as usize;
+        if place >= self.machine.rules() {
+            return Err(DocketFault::NoRule);
+        }
+        Ok(place)
+    }
+
     // The standing of a rule.
     pub fn look_up(&self, rule: u32) -> Result<Standing, DocketFault>
         ensures said { result ≡ answer (M.meaning self.now.machine.now) (look_up rule) self.now.book }
         ensures reached { Reaches (M.meaning self.now.machine.now) self.now.book (look_up rule) result (M.meaning self.now.machine.now) self.now.book }
     {
-        if rule as usize >= self.machine.rules() {
-            return Err(DocketFault::NoRule);
-        }
-        Ok(self.book.standings[rule as usize])
+        let place = self.place(rule)?;
+        Ok(self.book.standings[place])
     }
 
     // The counts.
@@ -100,13 +103,11 @@ impl<'m, M: Machine> Docket<'m, M> {
         ensures book { self.new.book ≡ after (M.meaning self.old.machine.now) (strike rule) self.old.book }
         ensures reached { Reaches (M.meaning self.old.machine.now) self.old.book (strike rule) result (M.meaning self.new.machine.now) self.new.book }
     {
-        if rule as usize >= self.machine.rules() {
-            return Err(DocketFault::NoRule);
-        }
-        if !self.book.is_entered(rule) {
+        let place = self.place(rule)?;
+        if !self.book.is_entered(place) {
             return Err(DocketFault::NotEntered);
         }
-        self.book.strike_out(rule);
+        self.book.strike_out(place);
         Ok(())
     }
 

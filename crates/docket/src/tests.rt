@@ -4,13 +4,12 @@ use super::*;
 #[test]
 fn limit(rt: HostRuntime) {
     let mut book = Book {
-        standings: [Standing::Open; 32],
         tally: Tally {
             handed_in: 999_999,
-            accepted: 0,
             refused: 999_999,
-            struck: 0,
+            ..Tally::default()
         },
+        ..Book::default()
     };
     assert!(rt; book.has_room());
     book.note(0, Err(Refusal::Docket(DocketFault::NoRule)));

@@ -39,7 +39,7 @@ cut_front a b cs ds h k =
     ∙ take-append-le (b.clauses - a.clauses) (drop a.clauses cs) ds (omega (arith, length-drop a.clauses cs))
 
 -- frames with the same marks
-module _ (f g : Frames) (e : g.marks ≡ f.marks) where
+module _ (f g : Frames) (e : g.marks.items ≡ f.marks.items) where
   pub same_before : (i : ℕ) → before_frame g i ≡ before_frame f i
   same_before zero = refl
   same_before (suc i) = ap (λ (ms : List Mark). get_or ms i none) e

@@ -10,6 +10,10 @@ use Rattle.frames.specs.declared.frames.Frames.{Frames}
 abbrev pub none : Mark
 none = record { clauses = 0; literals = 0 }
 
+-- how many frames are ended
+abbrev pub ended_frames : Frames → ℕ
+ended_frames f = length f.marks.items
+
 -- the clauses that are ended, of all frames
 abbrev pub clauses_of : Frames → List ℕ → List Span → List (List ℕ)
 clauses_of f ls ps = runs (take f.ended ls) (take f.spans.used ps)
@@ -17,7 +21,7 @@ clauses_of f ls ps = runs (take f.ended ls) (take f.spans.used ps)
 -- what stands before frame i
 abbrev pub before_frame : Frames → ℕ → Mark
 before_frame f zero = none
-before_frame f (suc i) = slice_index_or f.marks i none
+before_frame f (suc i) = slice_index_or f.marks.items i none
 
 -- the clauses of frame i
 unfoldable pub frame : Frames → List ℕ → List Span → ℕ → List (List ℕ)
@@ -25,7 +29,7 @@ frame f ls ps i = take ((before_frame f (suc i)).clauses - (before_frame f i).cl
 
 -- the clauses of the open frame
 abbrev pub open_frame : Frames → List ℕ → List Span → List (List ℕ)
-open_frame f ls ps = drop (before_frame f f.count).clauses (clauses_of f ls ps)
+open_frame f ls ps = drop (before_frame f (ended_frames f)).clauses (clauses_of f ls ps)
 
 -- the literals of the open clause
 abbrev pub open_clause : Frames → List ℕ → List ℕ
@@ -43,12 +47,12 @@ span_at ps k = slice_index_or ps k (record { start = 0; length = 0 })
 pub record Stacked (f : Frames) (ls : List ℕ) (ps : List Span) : Type 0 where
   pub literals_fit : f.literals.used ≤ length ls
   pub spans_fit : f.spans.used ≤ length ps
-  pub marks_rise : (i : ℕ) → i < f.count → (before_frame f i).clauses ≤ (before_frame f (suc i)).clauses
-  pub marks_low : (before_frame f f.count).clauses ≤ f.spans.used
+  pub marks_rise : (i : ℕ) → i < ended_frames f → (before_frame f i).clauses ≤ (before_frame f (suc i)).clauses
+  pub marks_low : (before_frame f (ended_frames f)).clauses ≤ f.spans.used
   -- a span starts where the literals of the clauses before it end
   pub starts : (k : ℕ) → k < f.spans.used → (span_at ps k).start ≡ length (flat (take k (clauses_of f ls ps)))
   -- it ends within the literals of the ended clauses
   pub ends : (k : ℕ) → k < f.spans.used → (span_at ps k).start + (span_at ps k).length ≤ f.ended
   -- the literals of the clauses are the first on their stack
   pub gapless : flat (clauses_of f ls ps) ≡ take f.ended ls
-  pub marks_count : (i : ℕ) → i ≤ f.count → (before_frame f i).literals ≡ length (flat (take (before_frame f i).clauses (clauses_of f ls ps)))
+  pub marks_count : (i : ℕ) → i ≤ ended_frames f → (before_frame f i).literals ≡ length (flat (take (before_frame f i).clauses (clauses_of f ls ps)))

@@ -2,9 +2,10 @@
 #![tactic(auto)]
 
 ghost use Rattle.std.specs.Prelude.{◌≡◌};
-ghost use Rattle.frames.specs.Held.{before_frame, open_clause};
+ghost use Rattle.frames.specs.Held.{ended_frames, before_frame, open_clause};
 ghost use Rattle.frames.specs.Writes.{Empty};
 
+use arrayvec::ArrayVec;
 use stack::Stack;
 
 mod frames;
@@ -18,14 +19,10 @@ impl Frames {
         ensures { Empty result }
     {
         Frames {
-            marks: [Mark {
-                clauses: 0,
-                literals: 0,
-            }; 65],
-            count: 0,
+            marks: ArrayVec::new(),
             ended: 0,
-            literals: Stack { used: 0 },
-            spans: Stack { used: 0 },
+            literals: Stack::default(),
+            spans: Stack::default(),
         }
     }
 
@@ -40,22 +37,20 @@ impl Frames {
 
     // How many frames are ended.
     pub fn count(&self) -> usize
-        ensures { result ≡ self.now.count }
+        ensures { result ≡ ended_frames self.now }
     {
-        self.count
+        self.marks.len()
     }
 
     // How many clauses and literals stand before a frame.
     pub fn before(&self, frame: usize) -> Mark
         ensures { result ≡ before_frame self.now frame }
     {
-        if frame == 0 || frame > 65 {
-            return Mark {
-                clauses: 0,
-                literals: 0,
-            };
-        }
-        self.marks[frame - 1]
+        frame
+            .checked_sub(1)
+            .and_then(|last| self.marks.get(last))
+            .copied()
+            .unwrap_or_default()
     }
 
     // How many literals the ended clauses have.

@@ -1,9 +1,7 @@
-ghost use Rattle.std.specs.Prelude.{◌≤◌};
+use arrayvec::ArrayVec;
 
-// A clause by value: the first `length` of its places are its literals.
-#[derive(Clone, Copy)]
+// A clause by value, of at most 16 literals.
+#[derive(Clone, Drop)]
 pub struct Clause {
-    pub(crate) literals: [u32; 16],
-    pub(crate) length: usize,
-    ghost short: { length ≤ 16 },
+    pub(crate) literals: ArrayVec<u32, 16>,
 }

@@ -1,14 +1,15 @@
 // Rule machines: the trait that each implements, its meaning and its law.
 #![tactic(auto)]
 
-ghost use Rattle.std.specs.Prelude.{◌≡◌, ℕ, ◌+◌, ◌<◌, ◌≤◌, Bool, true, false, List, [], ◌∷◌, ◌++◌, length, take, if◌then◌else◌, nat_lt};
+ghost use Rattle.std.specs.Prelude.{◌≡◌, ℕ, ◌+◌, ◌<◌, ◌≤◌, Bool, true, false, List, [], ◌∷◌, ◌++◌, length, take, ◌↔◌, IsOk, MatchResult};
 ghost use Rattle.std.specs.Option.{option_map};
 ghost use Rattle.machine.specs.Clauses.{listed};
 ghost use Rattle.machine.specs.Lists.{entry};
 ghost use Rattle.machine.specs.Meaning.{Meaning, Lawful};
 ghost use Rattle.machine.specs.Rows.{Fill, Ready};
 
-use refusal::DocketFault;
+use arrayvec::ArrayVec;
+use refusal::{DocketFault, Full};
 
 mod clause;
 
@@ -19,22 +20,18 @@ impl Clause {
         ensures { listed result ≡ [] }
     {
         Clause {
-            literals: [0; 16],
-            length: 0,
+            literals: ArrayVec::new(),
         }
     }
 
-    // One literal more at the end; false, and unchanged, where 16 stand.
-    pub fn push(&mut self, literal: u32) -> bool
-        ensures room { result ≡ nat_lt (length (listed self.old)) 16 }
-        ensures literals { listed self.new ≡ listed self.old ++ (if result then literal ∷ [] else []) }
+    // One literal more at the end; refused, and unchanged, where 16 stand.
+    pub fn push(&mut self, literal: u32) -> Result<(), Full>
+        ensures room { IsOk result ↔ (length (listed self.old) < 16) }
+        ensures literals { MatchResult result
+            (λ _. listed self.new ≡ listed self.old ++ literal ∷ [])
+            (λ _. self.new ≡ self.old) }
     {
-        if self.length >= 16 {
-            return false;
-        }
-        self.literals[self.length] = literal;
-        self.length += 1;
-        true
+        self.literals.try_push(literal).map_err(|_| Full)
     }
 
     // The clause of these literals, of which at most 16 are taken.
@@ -42,9 +39,8 @@ impl Clause {
         ensures { listed result ≡ take 16 literals.now }
     {
         let mut clause = Clause::empty();
-        let end = literals.len().min(16);
-        for literal in &literals[0..end] {
-            clause.push(*literal);
+        for literal in literals.iter().take(16) {
+            clause.literals.push(*literal);
         }
         clause
     }
@@ -52,7 +48,7 @@ impl Clause {
     pub fn as_slice(&self) -> &[u32]
         ensures { result.now ≡ listed self.now }
     {
-        &self.literals[0..self.length]
+        self.literals.as_slice()
     }
 }
 
@@ -61,16 +57,7 @@ pub fn can_fill(row: &[u8], given: usize, variables: usize) -> bool
     ensures yes { result ≡ true → Ready given variables row.now }
     ensures no { result ≡ false → Ready given variables row.now → ⊥ }
 {
-    if row.len() < variables {
-        return false;
-    }
-    let end = row.len().min(given.saturating_add(1));
-    for k in 1..end {
-        if row[k] > 1 {
-            return false;
-        }
-    }
-    true
+    row.len() >= variables && row.iter().skip(1).take(given).all(|byte| *byte <= 1)
 }
 
 pub trait Machine {

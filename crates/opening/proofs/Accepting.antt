@@ -14,12 +14,12 @@ use Rattle.certificate.specs.declared.record.Record.{Record}
 use Rattle.certificate.specs.declared.record.Record.TheVariants.{Claim as Claim-record, Literal, ClauseEnd, FrameEnd, Take, Resolve, RefutationEnd, Bit, RowEnd, End}
 use Rattle.certificate.specs.Records.{encode, encodes}
 use Rattle.certificate.proofs.Codes.{reads, longer}
-use Rattle.opening.specs.declared.opening.Claim.{Claim}
-use Rattle.opening.specs.declared.opening.Claim.TheVariants.{Trace, Induction, Counterexample}
+use Rattle.certificate.specs.declared.claim.Claim.{Claim}
+use Rattle.certificate.specs.declared.claim.Claim.TheVariants.{Trace, Induction, Counterexample}
 use Rattle.opening.specs.Steps.{Room, View, opening, framing, opened, clauses_in, clause_count, literal_count, is_next_literal, stands, literal_added, clause_ended, frame_ended, step}
 use Rattle.opening.specs.Reading.{Contents, Answer, from_here, reading}
 use Rattle.opening.specs.Openings.{clause_records, frame_records, opening_records, Proper, Opens}
-use Rattle.opening.proofs.Arms.{claim_trace, claim_induction, claim_counterexample}
+use Rattle.opening.proofs.Arms.{claim_trace, claim_opened}
 use Rattle.opening.proofs.Counts.{literals_push, clauses_among, literals_among, clause_within, literals_within}
 use Rattle.opening.proofs.Orders.{rises_next}
 use Rattle.opening.proofs.Loop.{Unopened, here_over, here_goes}
@@ -107,9 +107,9 @@ module _ (m : Meaning) (room : Room) (n : ℕ) where
   leads : (claim : Claim) (Fs : List (List (List ℕ))) → Proper m room claim n Fs → Leads m room opening (opening_records claim n Fs) (opened claim n Fs)
   leads Trace [] p = absurd (omega (arith, p.framed))
   leads Trace (F ∷ Fs) p = (framing n [] [] [], claim_trace n p.some p.few, frames_lead F Fs [] p.rising p.of_state (omega (arith, p.framed)) p.starts p.literals_fit p.clauses_fit)
-  leads Induction [] p = (opened Induction n [], claim_induction n p.some p.few, refl)
+  leads Induction [] p = (opened Induction n [], claim_opened Induction n (λ e. cc) p.some p.few, refl)
   leads Induction (F ∷ Fs) p = absurd (omega (arith, p.framed))
-  leads Counterexample [] p = (opened Counterexample n [], claim_counterexample n p.some p.few, refl)
+  leads Counterexample [] p = (opened Counterexample n [], claim_opened Counterexample n (λ e. cc) p.some p.few, refl)
   leads Counterexample (F ∷ Fs) p = absurd (omega (arith, p.framed))
 
 module _ (m : Meaning) (room : Room) where

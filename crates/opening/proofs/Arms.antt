@@ -1,5 +1,5 @@
 -- What each record does to the frames.
-use Rattle.std.proofs.Common.{◌≡◌, ℕ, ◌+◌, ◌/◌, ◌<◌, ◌≤◌, min, Bool, true, false, ◌&&◌, ◌||◌, eqb, ltb, ◌⊎◌, List, [], ◌∷◌, ◌++◌, length, Ok, Err, Result, sym, refl, ap, ◌∙◌, subst, ap₂, arith}
+use Rattle.std.proofs.Common.{◌≡◌, ℕ, ◌<◌, ◌≤◌, min, Bool, true, false, ◌&&◌, ◌||◌, eqb, ltb, ◌⊎◌, inl, inr, List, [], ◌∷◌, ◌++◌, length, Ok, Err, Result, sym, refl, ap, ◌∙◌, subst, ap₂, ◌≢◌, arith}
 use Rattle.std.proofs.lemmas.Bool.{cond-true, cond-false, eq-eqb, ne_eqb, lt-ltb, le-ltb, or_left}
 use Rattle.std.proofs.lemmas.Bool.Decides.{nat_tests}
 use Rattle.refusal.specs.declared.faults.CertificateFault.{CertificateFault}
@@ -9,14 +9,17 @@ use Rattle.machine.specs.Meaning.{Meaning}
 use Rattle.question_theory.specs.Traces.{state_setting}
 use Rattle.stack.specs.declared.spans.Span.{Span}
 use Rattle.frames.specs.declared.frames.Frames.{Frames}
-use Rattle.frames.specs.Held.{open_frame, open_clause}
-use Rattle.frames.specs.Writes.{Empty, OneLiteralMore, OneClauseMore, OneFrameMore, AddsFrame}
+use Rattle.frames.specs.Held.{ended_frames, open_frame, open_clause}
+use Rattle.frames.specs.Writes.{Empty, OneLiteralMore, OneClauseMore, OneFrameMore}
 use Rattle.certificate.specs.declared.record.Record.{Record}
 use Rattle.certificate.specs.declared.record.Record.TheVariants.{FrameEnd}
-use Rattle.opening.specs.declared.opening.Claim.TheVariants.{Trace, Induction, Counterexample}
+use Rattle.certificate.specs.Claims.{kind, claim_of}
+use Rattle.certificate.specs.declared.claim.Claim.{Claim}
+use Rattle.certificate.specs.declared.claim.Claim.TheVariants.{Trace, Induction, Counterexample}
 use Rattle.opening.specs.declared.phase.Phase.{Phase}
 use Rattle.opening.specs.declared.phase.Phase.TheVariants.{Framing, Opened}
-use Rattle.opening.specs.Steps.{framing, opened, room_in, above, is_next_literal, stands, claimed, literal_added, clause_ended, frame_ended, clause_count, literal_count}
+use Rattle.opening.specs.Steps.{framing, opened, room_in, is_next_literal, stands, claimed, literal_added, clause_ended, frame_ended, clause_count, literal_count}
+use Rattle.opening.specs.Openings.{most}
 use Rattle.opening.specs.Views.{held, Steady, Settled, Comes, Does}
 use Rattle.opening.proofs.HeldFrames.{held_count, empty_held, empty_frame, clauses_used, literals_used, same_held, more_held}
 
@@ -25,53 +28,49 @@ pub claim_trace : (n : ℕ) → 1 ≤ n → n ≤ 64 → claimed 1 n ≡ Ok (fra
 unfolding claimed
 claim_trace n a b = grind (arith, nat_tests)
 
-pub claim_induction : (n : ℕ) → 1 ≤ n → n ≤ 64 → claimed 2 n ≡ Ok (opened Induction n [])
+pub claim_opened : (c : Claim) (n : ℕ) → c ≢ Trace → 1 ≤ n → n ≤ most c → claimed (kind c) n ≡ Ok (opened c n [])
 unfolding claimed
-claim_induction n a b = grind (arith, nat_tests)
+claim_opened Trace n d a b = absurd (d refl)
+claim_opened Induction n d a b = grind (arith, nat_tests)
+claim_opened Counterexample n d a b = grind (arith, nat_tests)
 
-pub claim_counterexample : (n : ℕ) → 1 ≤ n → n ≤ 4096 → claimed 3 n ≡ Ok (opened Counterexample n [])
+pub claim_outside : (c : Claim) (n : ℕ) → (n < 1) ⊎ (most c < n) → claimed (kind c) n ≡ Err WrongNumber
 unfolding claimed
-claim_counterexample n a b = grind (arith, nat_tests)
+claim_outside Trace n h = grind (arith, nat_tests)
+claim_outside Induction n h = grind (arith, nat_tests)
+claim_outside Counterexample n h = grind (arith, nat_tests)
 
-pub claim_outside : (claim n most : ℕ) → (claim ≡ 3 → most ≡ 4096) → ((claim ≡ 3 → ⊥) → most ≡ 64) → (n < 1) ⊎ (most < n) → claimed claim n ≡ Err WrongNumber
+pub claim_unknown : (k n : ℕ) (f : CertificateFault) → Err f ≡ claim_of k → claimed k n ≡ Err f
 unfolding claimed
-claim_outside claim n most a b h = grind (arith, nat_tests)
+claim_unknown k n f e = grind (arith, nat_tests)
 
-pub claim_unknown : (claim n : ℕ) → (claim ≡ 1 → ⊥) → (claim ≡ 2 → ⊥) → (claim ≡ 3 → ⊥) → claimed claim n ≡ Err WrongNumber
-unfolding claimed
-claim_unknown claim n a b c = grind (arith, nat_tests)
+pub claim_known : (k : ℕ) (c : Claim) → Ok c ≡ claim_of k → k ≡ kind c
+claim_known k c e = grind (arith, nat_tests)
 
 module _ (f : Frames) (ls : List ℕ) (ps : List Span) (e : Empty f) (claim n : ℕ) where
-  pub fresh_trace : claim ≡ 1 → 1 ≤ n → n ≤ 64 → Comes (Ok (Framing n)) f ls ps (claimed claim n)
-  fresh_trace q a b = record {
-    is = ap (λ x. Ok (framing n x (open_frame f ls ps) (open_clause f ls))) (empty_held f ls ps e)
-        ∙ ap₂ (λ x y. Ok (framing n [] x y)) (empty_frame f ls ps e) (e.clause ls) ∙ sym (ap (λ (k : ℕ). claimed k n) q ∙ claim_trace n a b);
-    steady = (e.stacked ls ps, omega (arith, e.count), b);
-  }
+  pub fresh_trace : (c : Claim) → c ≡ Trace → claim ≡ kind c → 1 ≤ n → n ≤ most c → Comes (Ok (Framing n)) f ls ps (claimed claim n)
+  fresh_trace c d q a b =
+      let few = subst (λ (x : Claim). n ≤ most x) d b in
+      record {
+        is = ap (λ x. Ok (framing n x (open_frame f ls ps) (open_clause f ls))) (empty_held f ls ps e)
+            ∙ ap₂ (λ x y. Ok (framing n [] x y)) (empty_frame f ls ps e) (e.clause ls) ∙ sym (ap (λ (k : ℕ). claimed k n) (q ∙ ap kind d) ∙ claim_trace n a few);
+        steady = (e.stacked ls ps, omega (arith, e.count), few);
+      }
 
   settled : Settled f ls ps
   settled = record { stacked = e.stacked ls ps; frame = empty_frame f ls ps e; clause = e.clause ls }
 
-  pub fresh_induction : claim ≡ 2 → 1 ≤ n → n ≤ 64 → Comes (Ok (Opened Induction n)) f ls ps (claimed claim n)
-  fresh_induction q a b = record {
-    is = ap (λ x. Ok (opened Induction n x)) (empty_held f ls ps e) ∙ sym (ap (λ (k : ℕ). claimed k n) q ∙ claim_induction n a b);
+  pub fresh_unknown : (g : CertificateFault) (r : Result Phase CertificateFault) → Err g ≡ claim_of claim → r ≡ Err g → Comes r f ls ps (claimed claim n)
+  fresh_unknown g r q s = subst (λ (x : Result Phase CertificateFault). Comes x f ls ps (claimed claim n)) (sym s) (record { is = sym (claim_unknown claim n g q); steady = tt })
+
+  pub fresh_outside : (c : Claim) → claim ≡ kind c → (n < 1) ⊎ (most c < n) → Comes (Err WrongNumber) f ls ps (claimed claim n)
+  fresh_outside c q h = record { is = sym (ap (λ (k : ℕ). claimed k n) q ∙ claim_outside c n h); steady = tt }
+
+  pub fresh_opened : (c : Claim) → (c ≡ Induction) ⊎ (c ≡ Counterexample) → claim ≡ kind c → 1 ≤ n → n ≤ most c → Comes (Ok (Opened c n)) f ls ps (claimed claim n)
+  fresh_opened c d q a b = record {
+    is = ap (λ x. Ok (opened c n x)) (empty_held f ls ps e) ∙ sym (ap (λ (k : ℕ). claimed k n) q ∙ claim_opened c n (λ t. elim d [ inl i ↦ cc | inr i ↦ cc ]) a b);
     steady = settled;
   }
-
-  pub fresh_counterexample : claim ≡ 3 → 1 ≤ n → n ≤ 4096 → Comes (Ok (Opened Counterexample n)) f ls ps (claimed claim n)
-  fresh_counterexample q a b = record {
-    is = ap (λ x. Ok (opened Counterexample n x)) (empty_held f ls ps e) ∙ sym (ap (λ (k : ℕ). claimed k n) q ∙ claim_counterexample n a b);
-    steady = settled;
-  }
-
--- the next literal of a clause
-pub next_outside : (m : Meaning) (clause : List ℕ) (l : ℕ) → (l / 2 < 1 + m.inputs) ⊎ (1 + m.inputs + m.state_bits ≤ l / 2) → false ≡ is_next_literal m clause l
-unfolding is_next_literal
-next_outside m clause l h = grind (arith, nat_tests)
-
-pub next_within : (m : Meaning) (clause : List ℕ) (l : ℕ) → 1 + m.inputs ≤ l / 2 → l / 2 < 1 + m.inputs + m.state_bits → above clause l ≡ is_next_literal m clause l
-unfolding is_next_literal
-next_within m clause l a b = grind (arith, nat_tests)
 
 -- two limits as one
 least : (n a b : ℕ) → ltb n (min a b) ≡ (ltb n a && ltb n b)
@@ -102,7 +101,7 @@ module _ (m : Meaning) (f : Frames) (ls : List ℕ) (ps : List Span) (size : ℕ
   }
 
   pub literal_goes : (g : Frames) (ms : List ℕ) (l : ℕ) → true ≡ is_next_literal m (open_clause f ls) l →
-      true ≡ (ltb f.literals.used (length ls) && ltb f.literals.used 1048576) → OneLiteralMore f g l ls ms true ps →
+      true ≡ (ltb f.literals.used (length ls) && ltb f.literals.used 1048576) → OneLiteralMore f g l ls ms (Ok tt) ps →
       Comes (Ok (Framing size)) g ms ps (literal_added m (room_in (length ls) (length ps)) l size (held f ls ps) (open_frame f ls ps) (open_clause f ls))
   unfolding literal_added
   literal_goes g ms l e n w = record {
@@ -113,10 +112,10 @@ module _ (m : Meaning) (f : Frames) (ls : List ℕ) (ps : List Span) (size : ℕ
   }
 
   -- whether a clause may stand in the open frame, as it is asked
-  pub stands_is : (b : Bool) (c : List ℕ) → c ≡ open_clause f ls → b ≡ (ltb 0 f.count || holds (state_setting m m.start) c) → b ≡ stands m (held f ls ps) (open_clause f ls)
+  pub stands_is : (b : Bool) (c : List ℕ) → c ≡ open_clause f ls → b ≡ (ltb 0 (ended_frames f) || holds (state_setting m m.start) c) → b ≡ stands m (held f ls ps) (open_clause f ls)
   unfolding stands
   stands_is b c p e =
-      e ∙ ap (λ (x : List ℕ). ltb 0 f.count || holds (state_setting m m.start) x) p
+      e ∙ ap (λ (x : List ℕ). ltb 0 (ended_frames f) || holds (state_setting m m.start) x) p
       ∙ ap (λ (n : ℕ). ltb 0 n || holds (state_setting m m.start) (open_clause f ls)) (sym (held_count f ls ps))
       ∙ by (held f ls ps)
     where
@@ -139,7 +138,7 @@ module _ (m : Meaning) (f : Frames) (ls : List ℕ) (ps : List Span) (size : ℕ
   }
 
   pub clause_goes : (g : Frames) (qs : List Span) → true ≡ (ltb f.spans.used (length ps) && ltb f.spans.used 65536) → true ≡ stands m (held f ls ps) (open_clause f ls) →
-      OneClauseMore f g ps qs true ls →
+      OneClauseMore f g ps qs (Ok tt) ls →
       Comes (Ok (Framing size)) g ls qs (clause_ended m (room_in (length ls) (length ps)) size (held f ls ps) (open_frame f ls ps) (open_clause f ls))
   unfolding clause_ended
   clause_goes g qs n h w = record {
@@ -160,18 +159,14 @@ unfolding frame_ended
 frame_early m f ls ps size n = λ st. record { is = sym (cond-false (eqb (length (open_clause f ls)) 0) _ _ (ne_eqb (length (open_clause f ls)) 0 n)); steady = tt }
 
 module _ (f : Frames) (ls : List ℕ) (ps : List Span) (size : ℕ) (st : Steady (Framing size) f ls ps) where
-  -- at most 65 frames
-  pub frame_ends : (g : Frames) (r : Bool) → r ≡ ltb f.count 65 → AddsFrame f g r → OneFrameMore f g true ls ps
-  frame_ends g r e h = subst (λ (b : Bool). OneFrameMore f g b ls ps) (e ∙ lt-ltb f.count 65 (let a = st.1 in let b = st.2 in omega arith)) (h ls ps st.0)
-
-  none_open : (g : Frames) → length (open_clause f ls) ≡ 0 → OneFrameMore f g true ls ps → open_clause g ls ≡ []
+  none_open : (g : Frames) → length (open_clause f ls) ≡ 0 → OneFrameMore f g (Ok tt) ls ps → open_clause g ls ≡ []
   none_open g z w = w.clause ∙ no_entry (open_clause f ls) z
     where
       no_entry : (xs : List ℕ) → length xs ≡ 0 → xs ≡ []
       no_entry [] e = refl
       no_entry (x ∷ xs) e = absurd (omega arith)
 
-  pub frame_goes : (g : Frames) → length (open_clause f ls) ≡ 0 → f.count < size → OneFrameMore f g true ls ps →
+  pub frame_goes : (g : Frames) → length (open_clause f ls) ≡ 0 → ended_frames f < size → OneFrameMore f g (Ok tt) ls ps →
       Comes (Ok (Framing size)) g ls ps (frame_ended size (held f ls ps) (open_frame f ls ps) (open_clause f ls))
   unfolding frame_ended
   frame_goes g z l w = record {
@@ -182,7 +177,7 @@ module _ (f : Frames) (ls : List ℕ) (ps : List Span) (size : ℕ) (st : Steady
     steady = (w.stacked, omega (arith, w.count), st.2);
   }
 
-  pub frame_last : (g : Frames) → length (open_clause f ls) ≡ 0 → size ≤ f.count → OneFrameMore f g true ls ps →
+  pub frame_last : (g : Frames) → length (open_clause f ls) ≡ 0 → size ≤ ended_frames f → OneFrameMore f g (Ok tt) ls ps →
       Comes (Ok (Opened Trace size)) g ls ps (frame_ended size (held f ls ps) (open_frame f ls ps) (open_clause f ls))
   unfolding frame_ended
   frame_last g z l w = record {

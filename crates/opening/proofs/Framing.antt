@@ -6,7 +6,7 @@ use Rattle.resolution.specs.Clauses.{Rising}
 use Rattle.machine.specs.Meaning.{Meaning}
 use Rattle.question_theory.specs.Traces.{StateClauses, In}
 use Rattle.stack.specs.declared.spans.Span.{Span}
-use Rattle.frames.specs.Held.{frame}
+use Rattle.frames.specs.Held.{ended_frames, frame}
 use Rattle.opening.specs.declared.opening.Opening.{Opening}
 use Rattle.opening.specs.Steps.{Room}
 use Rattle.opening.specs.Views.{held, Settled}
@@ -17,7 +17,7 @@ pub by_number : (m : Meaning) (room : Room) (o : Opening) (ls : List ℕ) (ps : 
 by_number m room o ls ps s p =
     let f = o.frames in
     let count = held_count f ls ps in
-    let each : (P : List (List ℕ) → Type 0) → AllByRecursion P (held f ls ps) → (i : ℕ) → i < f.count → P (frame f ls ps i) =
+    let each : (P : List (List ℕ) → Type 0) → AllByRecursion P (held f ls ps) → (i : ℕ) → i < ended_frames f → P (frame f ls ps i) =
     λ P a i h. subst P (held_at f ls ps i h) (All-get_or P (held f ls ps) i [] (omega arith) a) in
     record {
       settled = s;

@@ -7,10 +7,9 @@ use Rattle.machine.specs.Meaning.{Meaning}
 use Rattle.stack.specs.declared.spans.Span.{Span}
 use Rattle.frames.specs.declared.frames.Frames.{Frames}
 use Rattle.certificate.specs.declared.record.Record.{Record}
-use Rattle.certificate.specs.Records.{encode, encodes, read, record_of, left_of}
+use Rattle.certificate.specs.Records.{encode, encodes, read}
 use Rattle.certificate.specs.Verdict.{at_offset}
-use Rattle.certificate.proofs.Codes.{read_some}
-use Rattle.opening.specs.declared.opening.Claim.{Claim}
+use Rattle.certificate.specs.declared.claim.Claim.{Claim}
 use Rattle.opening.specs.declared.phase.Phase.{Phase}
 use Rattle.opening.specs.declared.phase.Phase.TheVariants.{Opening, Framing, Opened}
 use Rattle.opening.specs.Steps.{Room, View, opening, framing, opened, step}
@@ -68,10 +67,6 @@ encodes_push (q ∷ rs) r after =
     append_assoc (encode q) (encodes rs) (encode r ++ after)
     ∙ ap (λ (x : List ℕ). encode q ++ x) (encodes_push rs r after)
     ∙ sym (append_assoc (encode q) (encodes (rs ++ r ∷ [])) after)
-
--- the record that was read, and what it leaves
-pub was_read : (rest : List ℕ) (r : Record) (after : List ℕ) → Some r ≡ record_of rest → after ≡ left_of rest → read rest ≡ Some (r, after)
-was_read rest r after e f = read_some rest r e ∙ ap (λ (x : List ℕ). Some (r, x)) (sym f)
 
 -- the answer from here is the answer from the start, and the records so far are this much of an opening
 pub record Going (m : Meaning) (room : Room) (first : ℕ) (bytes rest : List ℕ) (at k : ℕ) (v : View) : Type 0 where

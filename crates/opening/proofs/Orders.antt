@@ -4,9 +4,10 @@ use Rattle.std.proofs.ByRecursion.{All-push}
 use Rattle.std.proofs.lemmas.Bool.{and_parts, and_from, or_cases, or_right, leb-true, ltb-true, eqb-true, le-leb, lt-ltb}
 use Rattle.std.specs.List.{AllByRecursion}
 use Rattle.resolution.specs.Clauses.{Rising}
+use Rattle.resolution.specs.Lists.{above}
 use Rattle.machine.specs.Meaning.{Meaning}
 use Rattle.question_theory.specs.Traces.{OfState}
-use Rattle.opening.specs.Steps.{above, is_next_literal}
+use Rattle.opening.specs.Steps.{is_next_literal}
 
 rising_push : (c : List ℕ) (l : ℕ) → Rising c → AllByRecursion (λ y. y < l) c → Rising (c ++ l ∷ [])
 rising_push [] l r a = (tt, tt)

@@ -6,23 +6,18 @@ use Rattle.resolution.specs.Clauses.{Rising}
 use Rattle.machine.specs.Meaning.{Meaning}
 use Rattle.question_theory.specs.Traces.{StateClauses, In}
 use Rattle.stack.specs.declared.spans.Span.{Span}
-use Rattle.frames.specs.Held.{flat, frame}
+use Rattle.frames.specs.Held.{flat, ended_frames, frame}
 use Rattle.certificate.specs.declared.cursor.Cursor.{Cursor}
 use Rattle.certificate.specs.declared.record.Record.{Record}
 use Rattle.certificate.specs.declared.record.Record.TheVariants.{Claim as Claim-record, Literal, ClauseEnd, FrameEnd}
 use Rattle.certificate.specs.Records.{encodes}
-use Rattle.opening.specs.declared.opening.Claim.{Claim}
-use Rattle.opening.specs.declared.opening.Claim.TheVariants.{Trace, Induction, Counterexample}
+use Rattle.certificate.specs.Claims.{kind}
+use Rattle.certificate.specs.declared.claim.Claim.{Claim}
+use Rattle.certificate.specs.declared.claim.Claim.TheVariants.{Trace, Induction, Counterexample}
 use Rattle.opening.specs.declared.opening.Opening.{Opening}
 use Rattle.opening.specs.Steps.{Room, clauses_in}
 use Rattle.opening.specs.Reading.{Contents, reading}
 use Rattle.opening.specs.Views.{Settled, contents, shown}
-
--- the kind of a claim as a number
-abbrev pub kind : Claim → ℕ
-kind Trace = 1
-kind Induction = 2
-kind Counterexample = 3
 
 -- a clause as records: its literals, then its end
 abbrev pub clause_records : List ℕ → List Record
@@ -70,10 +65,10 @@ pub record Opens (m : Meaning) (room : Room) (bytes rest : List ℕ) (k : Conten
 -- the frames of an opening, by number
 pub record Framed (m : Meaning) (o : Opening) (ls : List ℕ) (ps : List Span) : Type 0 where
   pub settled : Settled o.frames ls ps
-  pub count : o.frames.count ≡ frames_with o.claim o.size
-  pub rising : (i : ℕ) → i < o.frames.count → AllByRecursion Rising (frame o.frames ls ps i)
-  pub of_state : (i : ℕ) → i < o.frames.count → StateClauses m (frame o.frames ls ps i)
-  pub starts : 0 < o.frames.count → In m (frame o.frames ls ps 0) m.start
+  pub count : ended_frames o.frames ≡ frames_with o.claim o.size
+  pub rising : (i : ℕ) → i < ended_frames o.frames → AllByRecursion Rising (frame o.frames ls ps i)
+  pub of_state : (i : ℕ) → i < ended_frames o.frames → StateClauses m (frame o.frames ls ps i)
+  pub starts : 0 < ended_frames o.frames → In m (frame o.frames ls ps 0) m.start
 
 -- what the reading of an opening answers and leaves, in areas that then hold ls and ps
 pub record Reads (m : Meaning) (room : Room) (before after : Cursor) (ls : List ℕ) (ps : List Span) (r : Result Opening CertificateRefusal) : Type 0 where

@@ -8,7 +8,7 @@ use Rattle.machine.specs.Meaning.{Meaning}
 use Rattle.certificate.specs.declared.record.Record.{Record}
 use Rattle.certificate.specs.Records.{read}
 use Rattle.certificate.specs.Verdict.{at_offset}
-use Rattle.opening.specs.declared.opening.Claim.{Claim}
+use Rattle.certificate.specs.declared.claim.Claim.{Claim}
 use Rattle.opening.specs.Steps.{Room, View, opening, framing, opened, step}
 
 -- what an opening says: the claim, its size, the frames of a trace, and of how many records it is

@@ -1,16 +1,17 @@
 -- What one record does where the reading of an opening stands: the questions at it, in their order.
-use Rattle.std.specs.Prelude.{ℕ, ◌+◌, ◌-◌, ◌/◌, min, Bool, true, cond, ◌&&◌, ◌||◌, List, [], ◌∷◌, ◌++◌, length, Ok, Err, Result, ◌==◌, nat_le, nat_lt, slice_index}
+use Rattle.std.specs.Prelude.{ℕ, ◌+◌, ◌/◌, min, Bool, true, cond, ◌&&◌, List, [], ◌∷◌, ◌++◌, length, Ok, Err, Result, ◌==◌, nat_le, nat_lt}
 use Rattle.std.specs.List.{flat_map}
 use Rattle.refusal.specs.declared.faults.CertificateFault.{CertificateFault}
 use Rattle.refusal.specs.declared.faults.CertificateFault.TheVariants.{OutOfPlace, WrongNumber, Full, NotAtStart}
 use Rattle.resolution.specs.Clauses.{holds}
+use Rattle.resolution.specs.Lists.{above}
 use Rattle.machine.specs.Meaning.{Meaning}
 use Rattle.question_theory.specs.Traces.{state_setting}
 use Rattle.frames.specs.Held.{flat}
 use Rattle.certificate.specs.declared.record.Record.{Record}
 use Rattle.certificate.specs.declared.record.Record.TheVariants.{Claim as Claim-record, Literal, ClauseEnd, FrameEnd, Take, Resolve, RefutationEnd, Bit, RowEnd, End}
-use Rattle.opening.specs.declared.opening.Claim.{Claim}
-use Rattle.opening.specs.declared.opening.Claim.TheVariants.{Trace, Induction, Counterexample}
+use Rattle.certificate.specs.declared.claim.Claim.{Claim}
+use Rattle.certificate.specs.declared.claim.Claim.TheVariants.{Trace, Induction, Counterexample}
 
 -- how many literals, and how many clauses, there is room for
 pub record Room : Type 0 where
@@ -39,10 +40,6 @@ clause_count frames frame = length (clauses_in frames ++ frame)
 
 abbrev pub literal_count : List (List (List ℕ)) → List (List ℕ) → List ℕ → ℕ
 literal_count frames frame clause = length (flat (clauses_in frames ++ frame)) + length clause
-
--- is the literal above the last one of the clause?
-unfoldable pub above : List ℕ → ℕ → Bool
-above clause l = length clause == 0 || nat_lt (slice_index clause (length clause - 1)) l
 
 -- is it one of a state bit, and above the last one of the clause?
 unfoldable pub is_next_literal : Meaning → List ℕ → ℕ → Bool

@@ -6,7 +6,7 @@ use Rattle.refusal.specs.declared.faults.CertificateRefusal.{CertificateRefusal}
 use Rattle.machine.specs.Meaning.{Meaning}
 use Rattle.stack.specs.declared.spans.Span.{Span}
 use Rattle.frames.specs.declared.frames.Frames.{Frames}
-use Rattle.frames.specs.Held.{frame, open_frame, open_clause, Stacked}
+use Rattle.frames.specs.Held.{ended_frames, frame, open_frame, open_clause, Stacked}
 use Rattle.frames.specs.Writes.{Empty}
 use Rattle.certificate.specs.declared.record.Record.{Record}
 use Rattle.certificate.specs.declared.record.Record.TheVariants.{Claim}
@@ -18,7 +18,7 @@ use Rattle.opening.specs.Reading.{Contents}
 
 -- the frames that are ended
 unfoldable pub held : Frames → List ℕ → List Span → List (List (List ℕ))
-held f ls ps = map (frame f ls ps) (range_with_len 0 f.count)
+held f ls ps = map (frame f ls ps) (range_with_len 0 (ended_frames f))
 
 -- where the reading stands, with the lists that the frames hold
 abbrev pub view : Phase → Frames → List ℕ → List Span → View
@@ -40,7 +40,7 @@ pub record Settled (f : Frames) (ls : List ℕ) (ps : List Span) : Type 0 where
 -- before the claim there is no frame; in the frames of a trace there are no more than it may have; after the opening nothing is open
 abbrev pub Steady : Phase → Frames → List ℕ → List Span → Type 0
 Steady Opening f ls ps = Empty f
-Steady (Framing size) f ls ps = Stacked f ls ps × (f.count ≤ size) × (size ≤ 64)
+Steady (Framing size) f ls ps = Stacked f ls ps × (ended_frames f ≤ size) × (size ≤ 64)
 Steady (Opened claim size) f ls ps = Settled f ls ps
 
 -- the same after a step that goes on

@@ -4,50 +4,43 @@ ghost use Rattle.resolution.specs.Clauses.{holds};
 ghost use Rattle.question_theory.specs.Traces.{state_setting};
 ghost use Rattle.machine.specs.Meaning.{Meaning};
 ghost use Rattle.stack.specs.declared.spans.Span.{Span as Entry};
-ghost use Rattle.frames.specs.Held.{open_clause};
+ghost use Rattle.frames.specs.Held.{ended_frames, open_clause};
 ghost use Rattle.certificate.specs.declared.record.Record.TheVariants.{Literal, ClauseEnd, FrameEnd};
 ghost use Rattle.opening.specs.declared.phase.Phase.TheVariants.{Framing};
-ghost use Rattle.opening.specs.Steps.{above, is_next_literal};
+ghost use Rattle.opening.specs.Steps.{is_next_literal};
+ghost use Rattle.opening.specs.Openings.{most};
 ghost use Rattle.opening.specs.Views.{Claimed, Does};
 
-use crate::opening::Claim;
 use crate::phase::Phase;
 use crate::start;
-use certificate::Record;
+use certificate::{Claim, Record};
 use frames::Frames;
 use machine::Machine;
 use refusal::CertificateFault;
+use resolution::is_above;
 use stack::Span;
+
+// The greatest size of a claim.
+fn most(claim: Claim) -> u32
+    ensures { result ≡ most claim }
+{
+    match claim {
+        Claim::Trace | Claim::Induction => 64,
+        Claim::Counterexample => 4096,
+    }
+}
 
 // The claim: a trace or an induction of 1 to 64, a counterexample of 1 to 4,096 rows.
 fn claimed(claim: u8, size: u32) -> Result<Phase, CertificateFault>
     ensures { Claimed claim size result }
 {
-    let most = if claim == 3 { 4096 } else { 64 };
-    if size < 1 || size > most {
+    let claim = Claim::try_from(claim)?;
+    if size < 1 || size > most(claim) {
         return Err(CertificateFault::WrongNumber);
     }
     match claim {
-        1 => Ok(Phase::Framing { size }),
-        2 => Ok(Phase::Opened {
-            claim: Claim::Induction,
-            size,
-        }),
-        3 => Ok(Phase::Opened {
-            claim: Claim::Counterexample,
-            size,
-        }),
-        _ => Err(CertificateFault::WrongNumber),
-    }
-}
-
-// Whether a literal is above the last one of a clause.
-fn above(clause: &[u32], literal: u32) -> bool
-    ensures { result ≡ above clause.now literal }
-{
-    match clause {
-        [.., last] => *last < literal,
-        [] => true,
+        Claim::Trace => Ok(Phase::Framing { size }),
+        Claim::Induction | Claim::Counterexample => Ok(Phase::Opened { claim, size }),
     }
 }
 
@@ -57,11 +50,7 @@ fn is_next<M: Machine>(machine: &M, clause: &[u32], literal: u32) -> bool
 {
     let first = 1 + machine.inputs();
     let end = first + machine.state_bits();
-    let variable = (literal / 2) as usize;
-    if variable < first || variable >= end {
-        return false;
-    }
-    above(clause, literal)
+    (first..end).contains(&((literal / 2) as usize)) && is_above(clause, literal)
 }
 
 // One literal more in the open clause.
@@ -77,15 +66,13 @@ fn add_literal<M: Machine>(
     if !is_next(machine, frames.open(literals), literal) {
         return Err(CertificateFault::WrongNumber);
     }
-    if !frames.push(literal, literals) {
-        return Err(CertificateFault::Full);
-    }
+    frames.push(literal, literals)?;
     Ok(Phase::Framing { size })
 }
 
 // Whether a clause may stand in the open frame: in the first one it must hold in the start.
 fn may_stand<M: Machine>(machine: &M, frames: &Frames, clause: &[u32]) -> bool
-    ensures { result ≡ (nat_lt 0 frames.now.count || holds (state_setting (M.meaning machine.now) (M.meaning machine.now).start) clause.now) }
+    ensures { result ≡ (nat_lt 0 (ended_frames frames.now) || holds (state_setting (M.meaning machine.now) (M.meaning machine.now).start) clause.now) }
 {
     frames.count() > 0 || start::holds(machine, clause)
 }
@@ -101,9 +88,7 @@ fn end_clause<M: Machine>(
     ensures { Does (M.meaning machine.now) (Framing size) ClauseEnd frames.old literals.now spans.old result frames.new literals.now spans.new }
 {
     let stands = may_stand(machine, frames, frames.open(literals));
-    if !frames.end_clause(spans) {
-        return Err(CertificateFault::Full);
-    }
+    frames.end_clause(spans)?;
     if !stands {
         return Err(CertificateFault::NotAtStart);
     }
@@ -116,7 +101,7 @@ fn end_frame(size: u32, frames: &mut Frames) -> Result<Phase, CertificateFault>
 {
     let last = frames.count() >= size as usize;
     // never refused: there are at most 65 frames
-    frames.end_frame();
+    frames.end_frame()?;
     if last {
         return Ok(Phase::Opened {
             claim: Claim::Trace,

@@ -1,8 +1,7 @@
 // The opening of a certificate: its claim and, of a trace, the frames.
 #![tactic(auto)]
 
-ghost use Rattle.std.specs.Prelude.{◌≡◌, length};
-ghost use Rattle.certificate.specs.Verdict.{at_offset};
+ghost use Rattle.std.specs.Prelude.{length};
 ghost use Rattle.opening.specs.Steps.{room_in};
 ghost use Rattle.opening.specs.Openings.{Reads};
 
@@ -19,18 +18,8 @@ mod opening;
 mod phase;
 mod start;
 
-pub use opening::{Claim, Opening};
-
-// A fault of the record at an offset, before the first question.
-fn at_offset(fault: CertificateFault, offset: usize) -> CertificateRefusal
-    ensures { result ≡ at_offset fault offset }
-{
-    CertificateRefusal {
-        fault,
-        offset,
-        question: 0,
-    }
-}
+pub use certificate::Claim;
+pub use opening::Opening;
 
 // Reads the opening of a certificate; the frames of a trace go onto the stacks over the areas that are lent.
 pub fn open<M: Machine>(
@@ -54,13 +43,11 @@ pub fn open<M: Machine>(
             });
         }
         let offset = cursor.offset();
-        let Some(record) = cursor.next() else {
-            return Err(at_offset(CertificateFault::NoRecord, offset));
-        };
-        phase = match step(machine, phase, record, &mut frames, literals, spans) {
-            Ok(next) => next,
-            Err(fault) => return Err(at_offset(fault, offset)),
-        };
+        let record = cursor
+            .next()
+            .ok_or(CertificateFault::NoRecord.at(offset, 0))?;
+        let stepped = step(machine, phase, record, &mut frames, literals, spans);
+        phase = stepped.map_err(|fault| fault.at(offset, 0))?;
         records += 1;
     }
 }

@@ -1,18 +1,8 @@
+use certificate::Claim;
 use frames::Frames;
 
-// What a certificate claims of a rule.
-#[derive(Clone, Copy, PartialEq, Eq, Debug)]
-pub enum Claim {
-    // the rule is kept: frames that close
-    Trace,
-    // the rule is kept: by induction
-    Induction,
-    // the rule is broken: a run that breaks it
-    Counterexample,
-}
-
 // The opening of a certificate.
-#[derive(Clone, Copy)]
+#[derive(Clone, Drop)]
 pub struct Opening {
     pub claim: Claim,
     // of a trace how many frames come after the first, of an induction how many rows it looks back, of a counterexample how many rows

@@ -1,4 +1,4 @@
-use crate::opening::Claim;
+use certificate::Claim;
 
 // Where the reading of an opening stands.
 #[derive(Clone, Copy)]

@@ -11,18 +11,12 @@ fn is_true<M: Machine>(machine: &M, literal: u32) -> bool
 {
     let variable = (literal / 2) as usize;
     let bit = variable.saturating_sub(1 + machine.inputs());
-    let set = machine.start_bit(bit).unwrap_or(false);
-    if literal % 2 == 0 { set } else { !set }
+    resolution::is_true(literal, machine.start_bit(bit).unwrap_or(false))
 }
 
 // Whether a clause holds in the start: one of its literals is true there.
 pub(crate) fn holds<M: Machine>(machine: &M, clause: &[u32]) -> bool
     ensures { result ≡ holds (state_setting (M.meaning machine.now) (M.meaning machine.now).start) clause.now }
 {
-    for literal in clause {
-        if is_true(machine, *literal) {
-            return true;
-        }
-    }
-    false
+    clause.iter().any(|literal| is_true(machine, *literal))
 }

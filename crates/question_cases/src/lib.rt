@@ -5,3 +5,5 @@
 mod lists;
 #[cfg(test)]
 mod openings;
+#[cfg(test)]
+mod worked;

@@ -1,5 +1,5 @@
 // Questions about the worked circuit and about a small step table.
-use aiger::Header;
+use crate::worked::{AREA, HEADER};
 use certificate::Cursor;
 use opening::open;
 use questions::{TraceList, trace_question, trace_questions};
@@ -7,17 +7,6 @@ use resolution::ClauseList;
 use stack::{Span, Stack};
 use std::test::Fail;
 use unrolling::{InductionList, induction_question, induction_questions};
-
-// Seven variables and ten clauses; rule 1 is literal 6.
-const HEADER: Header = Header {
-    maximum: 6,
-    inputs: 1,
-    latches: 2,
-    outputs: 2,
-    gates: 3,
-};
-
-static AREA: [u32; 10] = [9, 10, 12, 6, 5, 3, 4, 2, 6, 5];
 
 // Input 1 turns the state; the rule is broken where both are 1. Nine variables and 21 clauses.
 static TABLE: [u8; 33] = [
@@ -33,11 +22,6 @@ static TRACE: [u8; 31] = [
 // A trace of two frames: {5}; none.
 static SMALL: [u8; 14] = [1, 1, 1, 0, 0, 0, 2, 5, 0, 0, 0, 3, 4, 4];
 
-const NONE: Span = Span {
-    start: 0,
-    length: 0,
-};
-
 // Whether clause `number` of a list, copied behind what the stack holds, has these literals.
 fn has<L: ClauseList>(
     list: &L,
@@ -48,13 +32,8 @@ fn has<L: ClauseList>(
     spans: &[Span],
 ) -> bool {
     let mut stack = used;
-    if !list.copy(number, &mut stack, literals, spans) {
-        return false;
-    }
-    match literals.get(used.used..stack.used) {
-        Some(copied) => copied == clause,
-        None => false,
-    }
+    list.copy(number, &mut stack, literals, spans).is_ok()
+        && literals.get(used.used..stack.used) == Some(clause)
 }
 
 #[test]
@@ -63,10 +42,8 @@ fn induction_on_the_circuit(rt: HostRuntime) -> Result<(), Fail> {
     assert!(rt; circuit.set(HEADER, &AREA).is_ok());
     assert_eq!(rt; induction_questions(1), 2);
     assert!(rt; induction_question(1, 2).is_none());
-    let (mut literals, none) = ([0; 8], Stack { used: 0 });
-    let Some(base) = induction_question(1, 0) else {
-        return Err(Fail::new("no base"));
-    };
+    let (mut literals, none) = ([0; 8], Stack::default());
+    let base = induction_question(1, 0).ok_or("no base")?;
     let list = InductionList::new(&circuit, 1, base);
     assert_eq!(rt; list.count(&literals, &[]), 13);
     assert!(rt;
@@ -79,9 +56,7 @@ fn induction_on_the_circuit(rt: HostRuntime) -> Result<(), Fail> {
         !has(&list, 13, &[6], none, &mut literals, &[]),
         "past the end"
     );
-    let Some(last) = induction_question(1, 1) else {
-        return Err(Fail::new("no last question"));
-    };
+    let last = induction_question(1, 1).ok_or("no last question")?;
     let list = InductionList::new(&circuit, 1, last);
     assert_eq!(rt; list.count(&literals, &[]), 26);
     assert!(rt;
@@ -104,18 +79,14 @@ fn induction_on_the_circuit(rt: HostRuntime) -> Result<(), Fail> {
 fn trace_on_the_circuit(rt: HostRuntime) -> Result<(), Fail> {
     let mut circuit = circuit::smallest();
     assert!(rt; circuit.set(HEADER, &AREA).is_ok());
-    let (mut literals, mut spans) = ([0; 12], [NONE; 3]);
+    let (mut literals, mut spans) = ([0; 12], [Span::default(); 3]);
     let mut cursor = Cursor::new(&TRACE);
-    let Ok(opening) = open(&circuit, &mut cursor, &mut literals, &mut spans) else {
-        return Err(Fail::new("not opened"));
-    };
+    let opening = open(&circuit, &mut cursor, &mut literals, &mut spans).map_err(|_| "not opened")?;
     let frames = opening.frames;
     let used = frames.literals();
     assert_eq!(rt; trace_questions(&frames), 4);
     assert!(rt; trace_question(&frames, 4).is_none());
-    let Some(step) = trace_question(&frames, 0) else {
-        return Err(Fail::new("no step"));
-    };
+    let step = trace_question(&frames, 0).ok_or("no step")?;
     let list = TraceList::new(&circuit, &frames, 1, step);
     assert_eq!(rt; list.count(&literals, &spans), 28);
     assert!(rt;
@@ -130,9 +101,7 @@ fn trace_on_the_circuit(rt: HostRuntime) -> Result<(), Fail> {
         has(&list, 27, &[20], used, &mut literals, &spans),
         "the other denial"
     );
-    let Some(safe) = trace_question(&frames, 2) else {
-        return Err(Fail::new("no safety"));
-    };
+    let safe = trace_question(&frames, 2).ok_or("no safety")?;
     let list = TraceList::new(&circuit, &frames, 1, safe);
     assert_eq!(rt; list.count(&literals, &spans), 12);
     assert!(rt;
@@ -143,9 +112,7 @@ fn trace_on_the_circuit(rt: HostRuntime) -> Result<(), Fail> {
         has(&list, 11, &[6], used, &mut literals, &spans),
         "the rule"
     );
-    let Some(closing) = trace_question(&frames, 3) else {
-        return Err(Fail::new("no closing"));
-    };
+    let closing = trace_question(&frames, 3).ok_or("no closing")?;
     let list = TraceList::new(&circuit, &frames, 1, closing);
     assert_eq!(rt; list.count(&literals, &spans), 4);
     assert!(rt;
@@ -167,17 +134,13 @@ fn trace_on_the_circuit(rt: HostRuntime) -> Result<(), Fail> {
 fn questions_on_the_table(rt: HostRuntime) -> Result<(), Fail> {
     let mut table = step_table::smallest();
     assert!(rt; table.read(&TABLE).is_ok());
-    let (mut literals, mut spans) = ([0; 8], [NONE; 1]);
+    let (mut literals, mut spans) = ([0; 8], [Span::default(); 1]);
     let mut cursor = Cursor::new(&SMALL);
-    let Ok(opening) = open(&table, &mut cursor, &mut literals, &mut spans) else {
-        return Err(Fail::new("not opened"));
-    };
+    let opening = open(&table, &mut cursor, &mut literals, &mut spans).map_err(|_| "not opened")?;
     let frames = opening.frames;
     let used = frames.literals();
     assert_eq!(rt; trace_questions(&frames), 3);
-    let Some(closing) = trace_question(&frames, 2) else {
-        return Err(Fail::new("no closing"));
-    };
+    let closing = trace_question(&frames, 2).ok_or("no closing")?;
     let list = TraceList::new(&table, &frames, 0, closing);
     assert_eq!(rt; list.count(&literals, &spans), 2);
     assert!(rt;
@@ -188,9 +151,7 @@ fn questions_on_the_table(rt: HostRuntime) -> Result<(), Fail> {
         has(&list, 1, &[4, 19], used, &mut literals, &spans),
         "a selected clause"
     );
-    let Some(last) = induction_question(1, 1) else {
-        return Err(Fail::new("no last question"));
-    };
+    let last = induction_question(1, 1).ok_or("no last question")?;
     let list = InductionList::new(&table, 0, last);
     assert_eq!(rt; list.count(&literals, &spans), 46);
     assert!(rt;

@@ -8,7 +8,7 @@ use Rattle.resolution.specs.Clauses.{denial}
 use Rattle.machine.specs.Meaning.{Meaning}
 use Rattle.stack.specs.declared.spans.Span.{Span}
 use Rattle.frames.specs.declared.frames.Frames.{Frames}
-use Rattle.frames.specs.Held.{clauses_of, before_frame, frame, span_at, Stacked}
+use Rattle.frames.specs.Held.{ended_frames, clauses_of, before_frame, frame, span_at, Stacked}
 use Rattle.frames.proofs.Views.{mark_low, clauses_count, frame_count}
 use Rattle.question_theory.specs.Traces.{before, selectors, choices, denials, closing_question}
 use Rattle.question_theory.specs.Shapes.{flat, owner, LiteralPlace}
@@ -59,7 +59,7 @@ module _ (f : Frames) (ls : List ℕ) (ps : List Span) (s : Stacked f ls ps) whe
       and_from (ltb 0 (length ss)) (leb (span_at ss 0).start q) (lt-ltb 0 (length ss) (omega arith)) (le-leb (span_at ss 0).start q (omega arith))
 
   -- literal q lies in the clause of its span
-  module _ (n q : ℕ) (n≤ : n ≤ f.count) (q< : q < (before_frame f n).literals) where
+  module _ (n q : ℕ) (n≤ : n ≤ ended_frames f) (q< : q < (before_frame f n).literals) where
     some_span : 0 < f.spans.used
     some_span =
         let m = s.marks_count n n≤ in
@@ -136,7 +136,7 @@ module _ (f : Frames) (ls : List ℕ) (ps : List Span) (s : Stacked f ls ps) whe
         ap₂ (λ (x k : ℕ). denial x ∷ (2 * (a + k) + 1) ∷ []) (literal_is r place_lies) (sym (of_frames r place_lies).clause)
 
   -- the choice of frame j
-  selecting_are : (a j : ℕ) → j < f.count → selecting a f j ≡ selectors (a + length (before (frame f ls ps) j)) (frame f ls ps j)
+  selecting_are : (a j : ℕ) → j < ended_frames f → selecting a f j ≡ selectors (a + length (before (frame f ls ps) j)) (frame f ls ps j)
   selecting_are a j h =
       let order = selectors_in_order (a + length (before (frame f ls ps) j)) (frame f ls ps j) in
       let size = frame_count f ls ps s.spans_fit j in
@@ -145,7 +145,7 @@ module _ (f : Frames) (ls : List ℕ) (ps : List Span) (s : Stacked f ls ps) whe
       ext_get_or 0 (selecting a f j) (selectors (a + length (before (frame f ls ps) j)) (frame f ls ps j)) (omega (arith, order.0))
       (λ k l. let x = selecting_at a f j k (omega arith) in let y = order.1 k (omega arith) in omega arith)
 
-  choices_are : (m : Meaning) (n : ℕ) → n ≤ f.count → map (selecting m.variables f) (range_with_len 0 n) ≡ choices m (frame f ls ps) n
+  choices_are : (m : Meaning) (n : ℕ) → n ≤ ended_frames f → map (selecting m.variables f) (range_with_len 0 n) ≡ choices m (frame f ls ps) n
   choices_are m n h =
       let F = frame f ls ps in
       let pick : ℕ → List ℕ = λ j. selectors (m.variables + length (before (frame f ls ps) j)) (frame f ls ps j) in
@@ -158,7 +158,7 @@ module _ (f : Frames) (ls : List ℕ) (ps : List Span) (s : Stacked f ls ps) whe
       ∙ selecting_are m.variables j (omega arith)
       ∙ sym (each_at pick (choices m F) refl (λ _. refl) n j [] j<))
 
-  denials-are : (a n : ℕ) → n ≤ f.count → map (denying a (take f.ended ls) (take f.spans.used ps)) (range_with_len 0 (before_frame f n).literals) ≡ denials a (before (frame f ls ps) n)
+  denials-are : (a n : ℕ) → n ≤ ended_frames f → map (denying a (take f.ended ls) (take f.spans.used ps)) (range_with_len 0 (before_frame f n).literals) ≡ denials a (before (frame f ls ps) n)
   denials-are a n h =
       let F = frame f ls ps in
       let deny = denying a (take f.ended ls) (take f.spans.used ps) in
@@ -175,5 +175,5 @@ module _ (f : Frames) (ls : List ℕ) (ps : List Span) (s : Stacked f ls ps) whe
   pub closing_is : (m : Meaning) → closing_clauses m.variables f ls ps ≡ closing_question m (frame f ls ps) (last_frame f)
   unfolding closing_clauses closing_question
   closing_is m =
-      let h : last_frame f ≤ f.count = omega arith in
+      let h : last_frame f ≤ ended_frames f = omega arith in
       ap₂ (λ (ys zs : List (List ℕ)). frame f ls ps (last_frame f) ++ ys ++ zs) (choices_are m (last_frame f) h) (denials-are m.variables (last_frame f) h)

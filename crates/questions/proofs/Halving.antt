@@ -1,5 +1,6 @@
 -- The search for the span that a literal lies in.
-use Rattle.std.proofs.Common.{◌≡◌, ℕ, zero, suc, ◌+◌, ◌-◌, ◌^◌, ◌<◌, ◌≤◌, min, Bool, true, false, cond, ◌&&◌, ltb, leb, List, length, get_or, take, sym, refl, ap, ◌∙◌, subst, pow-suc, arith}
+use Rattle.std.proofs.Common.{◌≡◌, ℕ, zero, suc, ◌+◌, ◌-◌, ◌^◌, ◌<◌, ◌≤◌, min, Bool, true, false, cond, Some, None, Option, ◌&&◌, ltb, leb, List, length, get_or, take, sym, refl, ap, ◌∙◌, subst, pow-suc, arith}
+use Rattle.std.specs.Option.{MatchOption}
 use Rattle.std.proofs.lemmas.List.{length-take, get_or-take, get_or_read}
 use Rattle.std.proofs.lemmas.Bool.{cond_both, cond-true, cond-false, lt-ltb, le-ltb, and_left}
 use Rattle.stack.specs.declared.spans.Span.{Span}
@@ -21,6 +22,12 @@ unfolding begun
 begun_past n ps q k h =
     let l : length (take n ps) ≤ k = simp length-take h in
     sym (and_left (ltb k (length (take n ps))) (leb (span_at (take n ps) k).start q) (le-ltb k (length (take n ps)) l))
+
+-- what a read of a span tells of it
+pub begun_read : (n u : ℕ) (ps : List Span) (q k : ℕ) (o : Option Span) (b : Bool) (P : Span → Type 0) → u ≡ n →
+    MatchOption o (min u (length ps) ≤ k) (λ p. (k < min u (length ps)) × (p ≡ get_or ps k p)) → MatchOption o (b ≡ false) P → ((p : Span) → P p → b ≡ leb p.start q) → b ≡ begun (take n ps) q k
+begun_read n u ps q k (Some p) b P e h is told = told p is ∙ begun_there n ps q k p (omega (arith, h.0)) h.1
+begun_read n u ps q k None b P e h is told = is ∙ begun_past n ps q k (omega arith)
 
 -- one halving
 pub halved_more : (ps : List Span) (q b k : ℕ) → halved ps q (suc b) k ≡ halved ps q b (cond (begun ps q (k + 2 ^ b)) (k + 2 ^ b) k)

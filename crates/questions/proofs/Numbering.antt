@@ -1,5 +1,5 @@
 -- Questions of a trace that stands on the stacks, by their numbers.
-use Rattle.std.proofs.Common.{◌≡◌, ℕ, zero, suc, ◌+◌, ◌-◌, ◌<◌, ◌≤◌, min, List, [], ◌∷◌, ◌++◌, map, length, get_or, Some, None, Option, sym, refl, ap, ◌∙◌, ap₂, arith}
+use Rattle.std.proofs.Common.{◌≡◌, ℕ, zero, suc, ◌+◌, ◌-◌, ◌<◌, ◌≤◌, min, List, [], ◌∷◌, ◌++◌, map, length, get_or, Some, None, Option, MatchOption, sym, refl, ap, ◌∙◌, ap₂, arith}
 use Rattle.std.specs.List.{AllByRecursion}
 use Rattle.std.proofs.ByRecursion.{All-get_or}
 use Rattle.resolution.specs.Clauses.{denial}
@@ -85,8 +85,10 @@ found f q (Some Closing) h m law o ls ps fr =
     let n = counted f ls ps fr.stacked m o in (omega arith, found_closing f ls ps fr.stacked m law o fr.states q h)
 found f q None h m law o ls ps fr = let n = counted f ls ps fr.stacked m o in omega arith
 
--- a clause of a step question is one of a frame after the first
-pub never_past : (f : Frames) (n k q : ℕ) → q < (before_frame f (suc n)).clauses - (before_frame f 1).clauses → k ≡ (before_frame f 1).clauses + q →
-    ((j : ℕ) → j < n → (before_frame f (suc (suc j))).clauses ≤ k) → ⊥
-never_past f zero k q h e past = omega arith
-never_past f (suc n) k q h e past = omega (arith, past n (omega arith))
+-- the first frame that ends beyond clause k, among the first n
+pub after_first : (f : Frames) (k n : ℕ) (r : Option ℕ) → n ≡ last_frame f →
+    MatchOption r ((j : ℕ) → 0 ≤ j → j < n → (before_frame f (suc (suc j))).clauses ≤ k)
+    (λ i. (0 ≤ i) × (i < n) × (k < (before_frame f (suc (suc i))).clauses) × ((j : ℕ) → 0 ≤ j → j < i → (before_frame f (suc (suc j))).clauses ≤ k)) →
+    MatchOption r ((j : ℕ) → j < last_frame f → (before_frame f (suc (suc j))).clauses ≤ k) (λ i. AfterFrame f k i)
+after_first f k n (Some i) e h = record { within = omega (arith, h.1); ends = h.2; first = λ j l. h.3 j (omega arith) l }
+after_first f k n None e h = λ j l. h j (omega arith) (omega arith)

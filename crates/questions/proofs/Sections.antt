@@ -1,22 +1,35 @@
 -- Copies of clauses from a list of three sections.
-use Rattle.std.proofs.Common.{◌≡◌, ℕ, ◌+◌, ◌<◌, ◌≤◌, Bool, true, false, List, [], ◌++◌, length, get_or, sym, refl, subst, arith}
+use Rattle.std.proofs.Common.{◌≡◌, ℕ, ◌+◌, ◌<◌, ◌≤◌, List, [], ◌++◌, length, get_or, Result, Ok, Err, sym, refl, subst, ⊎_elim, arith}
+use Rattle.std.proofs.lemmas.Bool.{cases_lt}
+use Rattle.refusal.specs.declared.faults.Full.{Full as NoPlace}
+use Rattle.refusal.specs.declared.faults.RefutationFault.{RefutationFault}
+use Rattle.refusal.specs.declared.faults.RefutationFault.TheVariants.{NoClause, NoPivot, Full, NotRefuted}
 use Rattle.stack.specs.Pushes.{PushedAs}
 use Rattle.resolution.specs.Lists.{CopiedAs}
+use Rattle.resolution.proofs.Copies.{as_copy, copied}
 use Rattle.question_theory.proofs.OneByOne.{parts_count, first_at, second_at, third_at}
 
 -- clause n of one list is clause j of another
-pub copied_as : (cs ds : List (List ℕ)) (n j used end : ℕ) (ls ms : List ℕ) (r : Bool) →
+pub copied_as : (cs ds : List (List ℕ)) (n j used end : ℕ) (ls ms : List ℕ) (r : Result (Unit {0}) RefutationFault) →
     (j < length ds → n < length cs) → (n < length cs → j < length ds) → (j < length ds → get_or cs n [] ≡ get_or ds j []) →
     CopiedAs ds j used end ls ms r → CopiedAs cs n used end ls ms r
-copied_as cs ds n j used end ls ms true there back same p = (there p.0, subst (λ (c : List ℕ). PushedAs c used end ls ms true) (sym (same p.0)) p.1)
-copied_as cs ds n j used end ls ms false there back same p =
-    (λ h. subst (λ (c : List ℕ). length ls < used + length c) (sym (same (back h))) (p.0 (back h)), p.1, p.2)
+copied_as cs ds n j used end ls ms (Ok u) there back same p = (there p.0, subst (λ (c : List ℕ). PushedAs c used end ls ms (Ok u)) (sym (same p.0)) p.1)
+copied_as cs ds n j used end ls ms (Err NoClause) there back same p =
+    (⊎_elim (λ (l : n < length cs). let k = back l in let no : ⊥ = omega (arith, p.0) in absurd no) (λ (g : length cs ≤ n). g) (cases_lt n (length cs)), p.1, p.2)
+copied_as cs ds n j used end ls ms (Err Full) there back same p = (there p.0, subst (λ (c : List ℕ). length ls < used + length c) (sym (same p.0)) p.1, p.2, p.3)
+copied_as cs ds n j used end ls ms (Err NoPivot) there back same p = absurd p
+copied_as cs ds n j used end ls ms (Err NotRefuted) there back same p = absurd p
 
 -- none is past the end
-pub copied_none : (cs : List (List ℕ)) (n used : ℕ) (ls : List ℕ) → length cs ≤ n → CopiedAs cs n used used ls ls false
-copied_none cs n used ls h = (λ l. let no : ⊥ = omega arith in absurd no, refl, refl)
+pub copied_none : (cs : List (List ℕ)) (n used : ℕ) (ls : List ℕ) (t : Result (Unit {0}) RefutationFault) → length cs ≤ n → Err NoClause ≡ t → CopiedAs cs n used used ls ls t
+copied_none cs n used ls t h is = subst (λ x. CopiedAs cs n used used ls ls x) is (h, refl, refl)
 
-module _ (xs ys zs : List (List ℕ)) (a b n used end : ℕ) (ls ms : List ℕ) (r : Bool) (first : length xs ≡ a) (second : length ys ≡ b) where
+-- a clause that is pushed is copied, and where it finds no room the copy is refused for that
+pub copied_push : (cs : List (List ℕ)) (n used end : ℕ) (ls ms : List ℕ) (r : Result (Unit {0}) NoPlace) (t : Result (Unit {0}) RefutationFault) (c : List ℕ) →
+    n < length cs → get_or cs n [] ≡ c → PushedAs c used end ls ms r → as_copy r ≡ t → CopiedAs cs n used end ls ms t
+copied_push cs n used end ls ms r t c h e p is = subst (λ x. CopiedAs cs n used end ls ms x) is (copied cs n used end ls ms r c h e p)
+
+module _ (xs ys zs : List (List ℕ)) (a b n used end : ℕ) (ls ms : List ℕ) (r : Result (Unit {0}) RefutationFault) (first : length xs ≡ a) (second : length ys ≡ b) where
   pub copied_first : n < a → CopiedAs xs n used end ls ms r → CopiedAs (xs ++ ys ++ zs) n used end ls ms r
   copied_first h =
       let size = parts_count xs ys zs a b first second in

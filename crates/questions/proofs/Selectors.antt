@@ -1,10 +1,17 @@
 -- The selectors of a frame's clauses, by the marks of the frame.
-use Rattle.std.proofs.Common.{◌≡◌, ℕ, suc, ◌+◌, ◌-◌, ◌*◌, ◌<◌, map, length, get_or, refl, ap, ◌∙◌}
+use Rattle.std.proofs.Common.{◌%◌, arith, ◌≡◌, ℕ, suc, ◌+◌, ◌-◌, ◌*◌, ◌<◌, map, length, get_or, refl, ap, ◌∙◌}
 use Rattle.std.specs.List.{range_with_len}
 use Rattle.std.proofs.lemmas.List.FromFn.{length-map-range_with_len, get_or-map-range_with_len}
+use Rattle.std.proofs.lemmas.Bool.{eq-eqb}
+use Rattle.resolution.specs.Clauses.{denial}
 use Rattle.frames.specs.declared.frames.Frames.{Frames}
 use Rattle.frames.specs.Held.{before_frame}
 use Rattle.questions.specs.Closing.{selecting}
+
+-- the denial of a selector
+pub selector_denied : (k : ℕ) → denial (2 * k) ≡ 2 * k + 1
+unfolding denial
+selector_denied k = rw (eq-eqb (2 * k % 2) 0 (omega arith))
 
 module _ (a : ℕ) (f : Frames) (j : ℕ) where
   pub selecting_count : length (selecting a f j) ≡ (before_frame f (suc j)).clauses - (before_frame f j).clauses

@@ -4,7 +4,7 @@ use Rattle.std.proofs.lemmas.List.{length-append, length-take, take_more}
 use Rattle.std.proofs.lemmas.Bool.{cases_lt}
 use Rattle.stack.specs.declared.spans.Span.{Span}
 use Rattle.frames.specs.declared.frames.Frames.{Frames}
-use Rattle.frames.specs.Held.{clauses_of, before_frame, frame, Stacked}
+use Rattle.frames.specs.Held.{ended_frames, clauses_of, before_frame, frame, Stacked}
 use Rattle.frames.proofs.Growth.{flat_more}
 use Rattle.frames.proofs.Views.{mark_within, frame_count}
 use Rattle.question_theory.specs.Traces.{before}
@@ -30,7 +30,7 @@ flat_next cs i h =
     ap (λ ds. length (flat ds)) (take_more cs i [] h) ∙ ap length (flat_more (take i cs) (get_or cs i [])) ∙ length-append (flat (take i cs)) (get_or cs i [])
 
 module _ (f : Frames) (ls : List ℕ) (ps : List Span) (s : Stacked f ls ps) where
-  pub marks_up : (i j : ℕ) → i ≤ j → j ≤ f.count → (before_frame f i).clauses ≤ (before_frame f j).clauses
+  pub marks_up : (i j : ℕ) → i ≤ j → j ≤ ended_frames f → (before_frame f i).clauses ≤ (before_frame f j).clauses
   marks_up zero zero h l = omega arith
   marks_up (suc i) zero h l = let no : ⊥ = omega arith in absurd no
   marks_up i (suc j) h l =
@@ -40,12 +40,12 @@ module _ (f : Frames) (ls : List ℕ) (ps : List Span) (s : Stacked f ls ps) whe
       (cases_lt i (suc j))
 
   -- the clauses of the frames before n
-  pub before_is : (n : ℕ) → n ≤ f.count → before (frame f ls ps) n ≡ take (before_frame f n).clauses (clauses_of f ls ps)
+  pub before_is : (n : ℕ) → n ≤ ended_frames f → before (frame f ls ps) n ≡ take (before_frame f n).clauses (clauses_of f ls ps)
   unfolding frame
   before_is n h =
       frames_marked (clauses_of f ls ps) (λ i. (before_frame f i).clauses) n refl (λ i l. s.marks_rise i (omega arith)) (mark_within f ls ps s.spans_fit n)
 
-  pub before_count : (n : ℕ) → n ≤ f.count → length (before (frame f ls ps) n) ≡ (before_frame f n).clauses
+  pub before_count : (n : ℕ) → n ≤ ended_frames f → length (before (frame f ls ps) n) ≡ (before_frame f n).clauses
   before_count n h = ap length (before_is n h) ∙ length-take (before_frame f n).clauses (clauses_of f ls ps) ∙ omega (arith, mark_within f ls ps s.spans_fit n)
 
   -- the step questions of the frames before i

@@ -4,12 +4,12 @@ use Rattle.std.specs.List.{range_with_len}
 use Rattle.resolution.specs.Clauses.{denial}
 use Rattle.stack.specs.declared.spans.Span.{Span}
 use Rattle.frames.specs.declared.frames.Frames.{Frames}
-use Rattle.frames.specs.Held.{before_frame, frame}
+use Rattle.frames.specs.Held.{ended_frames, before_frame, frame}
 use Rattle.questions.specs.Places.{place}
 
 -- the number of the last frame
 abbrev pub last_frame : Frames → ℕ
-last_frame f = f.count - 1
+last_frame f = ended_frames f - 1
 
 -- one of the clauses of frame j is selected: the selector of clause k is variable a + k
 unfoldable pub selecting : ℕ → Frames → ℕ → List ℕ

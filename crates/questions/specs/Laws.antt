@@ -6,7 +6,7 @@ use Rattle.machine.specs.Meaning.{Meaning, Lawful}
 use Rattle.machine.specs.Runs.{Kept}
 use Rattle.stack.specs.declared.spans.Span.{Span}
 use Rattle.frames.specs.declared.frames.Frames.{Frames}
-use Rattle.frames.specs.Held.{frame, Stacked}
+use Rattle.frames.specs.Held.{ended_frames, frame, Stacked}
 use Rattle.question_theory.specs.Traces.{StateClauses, In, questions_of_trace, SafeTrace}
 use Rattle.question_theory.specs.Shapes.{TraceFineness}
 use Rattle.questions.specs.declared.question.TraceQuestion.{TraceQuestion}
@@ -45,4 +45,4 @@ pub record Telling (m : Meaning) (o : ℕ) (F : ℕ → List (List ℕ)) (n : �
 
 -- so it is for each trace of two frames or more that stands on the stacks
 abbrev pub TellsOf : Meaning → ℕ → Frames → Type 0
-TellsOf m o f = (ls : List ℕ) (ps : List Span) → Framed m f ls ps → 1 < f.count → o < m.rules → Telling m o (frame f ls ps) (last_frame f)
+TellsOf m o f = (ls : List ℕ) (ps : List Span) → Framed m f ls ps → 1 < ended_frames f → o < m.rules → Telling m o (frame f ls ps) (last_frame f)

@@ -1,13 +1,16 @@
 // The clauses of the closing question, by their numbers.
-ghost use Rattle.std.specs.Prelude.{◌≡◌, ℕ, ◌<◌, ◌≤◌, List, length, take};
+ghost use Rattle.std.specs.Prelude.{◌≡◌, ℕ, ◌<◌, ◌≤◌, ◌+◌, ◌*◌, List, length, take};
 ghost use Rattle.stack.specs.Pushes.{PushedAs};
 ghost use Rattle.resolution.specs.Lists.{CopiedAs};
 ghost use Rattle.questions.specs.Closing.{selecting, denying, closing_clauses};
 ghost use Rattle.questions.specs.Places.{begun, place};
 
 use super::framed::{copy_framed, count_framed, frame_end};
+use super::list::TraceList;
 use super::question::last_frame;
 use frames::Frames;
+use machine::Machine;
+use refusal::{Full, RefutationFault};
 use resolution::deny;
 use stack::{Span, Stack};
 
@@ -15,10 +18,10 @@ use stack::{Span, Stack};
 fn has_begun(frames: &Frames, number: usize, literal: usize, spans: &[Span]) -> bool
     ensures { result ≡ begun (take frames.now.spans.used spans.now) literal number }
 {
-    match frames.spans().read(spans, number) {
-        Some(span) => span.start as usize <= literal,
-        None => false,
-    }
+    frames
+        .spans()
+        .read(spans, number)
+        .is_some_and(|span| span.start as usize <= literal)
 }
 
 // The span that a literal lies in, by halving.
@@ -36,85 +39,85 @@ fn find_span(frames: &Frames, literal: usize, spans: &[Span]) -> usize
     span
 }
 
-// Pushes the selectors of a frame's clauses: variables from `variables` on, one for each clause of all frames.
-fn push_selectors(
-    variables: usize,
-    frames: &Frames,
-    index: usize,
-    stack: &mut Stack,
-    literals: &mut [u32],
-) -> bool
-    requires { variables ≤ 16384 }
-    ensures { PushedAs (selecting variables frames.now index) stack.old.used stack.new.used literals.old literals.new result }
-{
-    let first = frames.before(index).clauses;
-    let size = frame_end(frames, index).saturating_sub(first);
-    let start = stack.used;
-    if start > literals.len() || size > literals.len() - start {
-        return false;
+impl<'m, 'f, M: Machine> TraceList<'m, 'f, M> {
+    // How many clauses the closing question has.
+    pub(crate) fn count_closing(&self, spans: &[Span]) -> usize
+        ensures { (a : ℕ) (ls : List ℕ) → result ≡ length (closing_clauses a self.now.frames.now ls spans.now) }
+    {
+        let last = last_frame(self.frames);
+        count_framed(self.frames, last, spans) + last + self.frames.before(last).literals
     }
-    for k in 0..size {
-        literals[start + k] = (2 * (variables + (first + k))) as u32;
-    }
-    stack.used = start + size;
-    true
-}
 
-// Pushes the denial of a literal of the frames, and the denial of its clause's selector.
-fn push_denial(
-    variables: usize,
-    frames: &Frames,
-    literal: usize,
-    stack: &mut Stack,
-    literals: &mut [u32],
-    spans: &[Span],
-) -> bool
-    requires { variables ≤ 16384 }
-    ensures { PushedAs (denying variables (take frames.now.ended literals.old) (take frames.now.spans.used spans.now) literal) stack.old.used stack.new.used literals.old literals.new result }
-{
-    let span = find_span(frames, literal, spans);
-    let ended = Stack {
-        used: frames.ended(),
-    };
-    let found = ended.read(literals, literal).unwrap_or(0);
-    stack.push_all(
-        literals,
-        &[deny(found), (2 * (variables + span) + 1) as u32],
-    )
-}
+    // Copies a clause of it: of the last frame, a choice, or a denial.
+    pub(crate) fn copy_closing(
+        &self,
+        number: usize,
+        stack: &mut Stack,
+        literals: &mut [u32],
+        spans: &[Span],
+    ) -> Result<(), RefutationFault>
+        ensures { CopiedAs (closing_clauses (M.meaning self.now.machine.now).variables self.now.frames.now literals.old spans.now) number stack.old.used stack.new.used literals.old literals.new result }
+    {
+        let last = last_frame(self.frames);
+        let framed = count_framed(self.frames, last, spans);
+        if number < framed {
+            return copy_framed(self.frames, last, number, stack, literals, spans);
+        }
+        let choice = number - framed;
+        if choice < last {
+            return Ok(self.push_selectors(choice, stack, literals)?);
+        }
+        let literal = choice - last;
+        if literal >= self.frames.before(last).literals {
+            return Err(RefutationFault::NoClause);
+        }
+        Ok(self.push_denial(literal, stack, literals, spans)?)
+    }
 
-// How many clauses the closing question has.
-pub(crate) fn count_closing(frames: &Frames, spans: &[Span]) -> usize
-    ensures { (a : ℕ) (ls : List ℕ) → result ≡ length (closing_clauses a frames.now ls spans.now) }
-{
-    let last = last_frame(frames);
-    count_framed(frames, last, spans) + last + frames.before(last).literals
-}
+    // Pushes the selectors of a frame's clauses: variables behind the machine's, one for each clause of all frames.
+    fn push_selectors(
+        &self,
+        index: usize,
+        stack: &mut Stack,
+        literals: &mut [u32],
+    ) -> Result<(), Full>
+        ensures { PushedAs (selecting (M.meaning self.now.machine.now).variables self.now.frames.now index) stack.old.used stack.new.used literals.old literals.new result }
+    {
+        let first = self.frames.before(index).clauses;
+        let end = frame_end(self.frames, index);
+        let room = literals.len().checked_sub(stack.used).ok_or(Full)?;
+        if end.saturating_sub(first) > room {
+            return Err(Full);
+        }
+        for clause in first..end {
+            stack.push(literals, self.selector(clause))?;
+        }
+        Ok(())
+    }
 
-// Copies a clause of it: of the last frame, a choice, or a denial.
-pub(crate) fn copy_closing(
-    variables: usize,
-    frames: &Frames,
-    number: usize,
-    stack: &mut Stack,
-    literals: &mut [u32],
-    spans: &[Span],
-) -> bool
-    requires { variables ≤ 16384 }
-    ensures { CopiedAs (closing_clauses variables frames.now literals.old spans.now) number stack.old.used stack.new.used literals.old literals.new result }
-{
-    let last = last_frame(frames);
-    let framed = count_framed(frames, last, spans);
-    if number < framed {
-        return copy_framed(frames, last, number, stack, literals, spans);
+    // Pushes the denial of a literal of the frames, and the denial of its clause's selector.
+    fn push_denial(
+        &self,
+        literal: usize,
+        stack: &mut Stack,
+        literals: &mut [u32],
+        spans: &[Span],
+    ) -> Result<(), Full>
+        ensures { PushedAs (denying (M.meaning self.now.machine.now).variables (take self.now.frames.now.ended literals.old) (take self.now.frames.now.spans.used spans.now) literal) stack.old.used stack.new.used literals.old literals.new result }
+    {
+        let span = find_span(self.frames, literal, spans);
+        let ended = Stack {
+            used: self.frames.ended(),
+        };
+        let found = ended.read(literals, literal).unwrap_or(0);
+        stack.push_all(literals, &[deny(found), deny(self.selector(span))])
     }
-    let choice = number - framed;
-    if choice < last {
-        return push_selectors(variables, frames, choice, stack, literals);
+
+    // The selector of a clause, counted through all frames.
+    fn selector(&self, clause: usize) -> u32
+        requires { clause < 131072 }
+        ensures { result ≡ 2 * ((M.meaning self.now.machine.now).variables + clause) }
+    {
+        (2 * (self.machine.variables() + clause)) as u32
     }
-    let literal = choice - last;
-    if literal < frames.before(last).literals {
-        return push_denial(variables, frames, literal, stack, literals, spans);
-    }
-    false
 }

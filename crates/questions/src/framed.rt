@@ -6,6 +6,7 @@ ghost use Rattle.frames.specs.Held.{clauses_of, before_frame, frame as clauses_i
 ghost use Rattle.questions.specs.Lists.{next_clause};
 
 use frames::Frames;
+use refusal::RefutationFault;
 use stack::{Bounds, Span, Stack};
 
 // Which literals are a clause, counted through all frames, if it is ended.
@@ -17,9 +18,7 @@ pub(crate) fn find_clause(
 ) -> Option<Bounds>
     ensures { MatchOption result (length (clauses_of frames.now literals.now spans.now) ≤ number) (λ b. (number < length (clauses_of frames.now literals.now spans.now)) × (b.start ≤ b.end) × (b.end ≤ min frames.now.ended (length literals.now)) × (part literals.now b.start b.end ≡ slice_index_or (clauses_of frames.now literals.now spans.now) number [])) }
 {
-    let Some(span) = frames.spans().read(spans, number) else {
-        return None;
-    };
+    let span = frames.spans().read(spans, number)?;
     Some(span.bounds(frames.ended().min(literals.len())))
 }
 
@@ -53,10 +52,7 @@ pub(crate) fn find_next(
     ensures marks { part literals.now result.start result.end ≡ next_clause frames.now literals.now spans.now index clause }
 {
     let place = frame_end(frames, index).saturating_add(clause);
-    match find_clause(frames, place, literals, spans) {
-        Some(found) => found,
-        None => Bounds { start: 0, end: 0 },
-    }
+    find_clause(frames, place, literals, spans).unwrap_or_default()
 }
 
 // Copies a clause of a frame.
@@ -67,15 +63,16 @@ pub(crate) fn copy_framed(
     stack: &mut Stack,
     literals: &mut [u32],
     spans: &[Span],
-) -> bool
+) -> Result<(), RefutationFault>
     ensures { CopiedAs (clauses_in frames.now literals.old spans.now index) number stack.old.used stack.new.used literals.old literals.new result }
 {
     if number >= count_framed(frames, index, spans) {
-        return false;
+        return Err(RefutationFault::NoClause);
     }
     let first = frames.before(index).clauses;
-    let Some(clause) = find_clause(frames, first + number, literals, spans) else {
-        return false;
-    };
-    stack.push_again(literals, clause)
+    let clause = find_clause(frames, first + number, literals, spans).ok_or(
+        RefutationFault::NoClause,
+    )?;
+    stack.push_again(literals, clause)?;
+    Ok(())
 }

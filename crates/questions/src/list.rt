@@ -8,20 +8,20 @@ ghost use Rattle.questions.specs.Lists.{denied_next, step_clauses, next_clause, 
 ghost use Rattle.questions.specs.Kept.{asked_kept};
 ghost use Rattle.questions.specs.Laws.{TellsOf};
 
-use super::closing::{copy_closing, count_closing};
 use super::framed::{copy_framed, count_framed, find_next};
 use super::question::TraceQuestion;
 use super::rows::{copy_row, count_rows, deny_next};
 use frames::Frames;
 use machine::Machine;
+use refusal::RefutationFault;
 use resolution::ClauseList;
 use stack::{Bounds, Span, Stack};
 
 // The clauses of a question about a rule of a machine; those of the frames stand on the stacks.
 #[derive(Drop)]
 pub struct TraceList<'m, 'f, M: Machine> {
-    machine: &'m M,
-    frames: &'f Frames,
+    pub(crate) machine: &'m M,
+    pub(crate) frames: &'f Frames,
     rule: usize,
     question: TraceQuestion,
 }
@@ -65,15 +65,15 @@ impl<'m, 'f, M: Machine> TraceList<'m, 'f, M> {
         number: usize,
         stack: &mut Stack,
         literals: &mut [u32],
-    ) -> bool
+    ) -> Result<(), RefutationFault>
         requires { (next.start ≤ next.end) × (next.end ≤ length literals.old) }
         ensures { CopiedAs (map (denied_next (M.meaning self.now.machine.now)) (part literals.old next.start next.end)) number stack.old.used stack.new.used literals.old literals.new result }
     {
-        if number >= next.end - next.start {
-            return false;
-        }
-        let literal = literals[next.start + number];
-        stack.push(literals, deny_next(self.machine, literal))
+        let literal = *literals[next.start..next.end]
+            .get(number)
+            .ok_or(RefutationFault::NoClause)?;
+        stack.push(literals, deny_next(self.machine, literal))?;
+        Ok(())
     }
 
     // Copies a clause of a step question: of two rows, of the frame, or a denial.
@@ -85,7 +85,7 @@ impl<'m, 'f, M: Machine> TraceList<'m, 'f, M> {
         stack: &mut Stack,
         literals: &mut [u32],
         spans: &[Span],
-    ) -> bool
+    ) -> Result<(), RefutationFault>
         ensures { CopiedAs (step_clauses (M.meaning self.now.machine.now) (clauses_in self.now.frames.now literals.old spans.now index) (next_clause self.now.frames.now literals.old spans.now index clause)) number stack.old.used stack.new.used literals.old literals.new result }
     {
         let rows = count_rows(self.machine, 1, literals, spans);
@@ -116,7 +116,7 @@ impl<'m, 'f, M: Machine> TraceList<'m, 'f, M> {
         stack: &mut Stack,
         literals: &mut [u32],
         spans: &[Span],
-    ) -> bool
+    ) -> Result<(), RefutationFault>
         ensures { CopiedAs (safe_question (M.meaning self.now.machine.now) self.now.rule (clauses_in self.now.frames.now literals.old spans.now index)) number stack.old.used stack.new.used literals.old literals.new result }
     {
         let rows = count_rows(self.machine, 0, literals, spans);
@@ -128,10 +128,11 @@ impl<'m, 'f, M: Machine> TraceList<'m, 'f, M> {
             return copy_framed(self.frames, index, number - rows, stack, literals, spans);
         }
         if number - rows > framed {
-            return false;
+            return Err(RefutationFault::NoClause);
         }
         let broken = self.machine.rule_literal(self.rule).unwrap_or(0);
-        stack.push(literals, broken)
+        stack.push(literals, broken)?;
+        Ok(())
     }
 }
 
@@ -150,26 +151,23 @@ impl<'m, 'f, M: Machine> ClauseList for TraceList<'m, 'f, M> {
                 self.count_step(frame, clause, literals, spans)
             },
             TraceQuestion::Safe { frame } => self.count_safe(frame, literals, spans),
-            TraceQuestion::Closing => count_closing(self.frames, spans),
+            TraceQuestion::Closing => self.count_closing(spans),
         }
     }
 
-    fn copy(&self, number: usize, stack: &mut Stack, literals: &mut [u32], spans: &[Span]) -> bool {
+    fn copy(
+        &self,
+        number: usize,
+        stack: &mut Stack,
+        literals: &mut [u32],
+        spans: &[Span],
+    ) -> Result<(), RefutationFault> {
         match self.question {
             TraceQuestion::Step { frame, clause } => {
                 self.copy_step(frame, clause, number, stack, literals, spans)
             },
             TraceQuestion::Safe { frame } => self.copy_safe(frame, number, stack, literals, spans),
-            TraceQuestion::Closing => {
-                copy_closing(
-                    self.machine.variables(),
-                    self.frames,
-                    number,
-                    stack,
-                    literals,
-                    spans,
-                )
-            },
+            TraceQuestion::Closing => self.copy_closing(number, stack, literals, spans),
         }
     }
 }

@@ -37,12 +37,7 @@ fn count_steps(frames: &Frames) -> usize
 fn frame_before(frames: &Frames, clause: usize) -> Option<usize>
     ensures { MatchOption result ((j : ℕ) → j < last_frame frames.now → (before_frame frames.now (suc (suc j))).clauses ≤ clause) (λ i. AfterFrame frames.now clause i) }
 {
-    for frame in 0..last_frame(frames) {
-        if clause < frame_end(frames, frame + 1) {
-            return Some(frame);
-        }
-    }
-    None
+    (0..last_frame(frames)).find(|frame| clause < frame_end(frames, frame + 1))
 }
 
 // How many questions a trace has.
@@ -58,21 +53,22 @@ pub fn trace_question(frames: &Frames, number: usize) -> Option<TraceQuestion>
     ensures place { QuestionAt frames.now number result }
     ensures trace { Found frames.now number result }
 {
-    let steps = count_steps(frames);
     let last = last_frame(frames);
-    if number < steps {
-        let place = frame_end(frames, 0) + number;
-        let frame = frame_before(frames, place)?;
-        let clause = place.saturating_sub(frame_end(frames, frame));
-        return Some(TraceQuestion::Step { frame, clause });
+    match number.checked_sub(count_steps(frames)) {
+        None => step_question(frames, number),
+        Some(frame) if frame <= last => Some(TraceQuestion::Safe { frame }),
+        Some(after) if after == last + 1 => Some(TraceQuestion::Closing),
+        Some(_) => None,
     }
-    if number - steps <= last {
-        return Some(TraceQuestion::Safe {
-            frame: number - steps,
-        });
-    }
-    if number - steps == last + 1 {
-        return Some(TraceQuestion::Closing);
-    }
-    None
+}
+
+// A step question, by the number of its clause among those after the first frame.
+fn step_question(frames: &Frames, number: usize) -> Option<TraceQuestion>
+    requires { number < steps_of frames.now }
+    ensures { QuestionAt frames.now number result }
+{
+    let place = frame_end(frames, 0) + number;
+    let frame = frame_before(frames, place)?;
+    let clause = place.saturating_sub(frame_end(frames, frame));
+    Some(TraceQuestion::Step { frame, clause })
 }

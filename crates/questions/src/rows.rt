@@ -5,6 +5,7 @@ ghost use Rattle.resolution.specs.Lists.{CopiedAs};
 ghost use Rattle.question_theory.specs.Unrolling.{moved, unroll};
 
 use machine::Machine;
+use refusal::RefutationFault;
 use resolution::{ClauseList, deny};
 use stack::{Span, Stack};
 use unrolling::Unrolling;
@@ -20,8 +21,7 @@ pub(crate) fn count_rows<M: Machine>(
     ensures size { result ≡ length (unroll (M.meaning machine.now) depth) }
     ensures few { result ≤ 163840 }
 {
-    let rows = Unrolling::new(machine, depth);
-    rows.count(literals, spans)
+    Unrolling::new(machine, depth).count(literals, spans)
 }
 
 // Copies a clause of depth + 1 rows.
@@ -32,12 +32,11 @@ pub(crate) fn copy_row<M: Machine>(
     stack: &mut Stack,
     literals: &mut [u32],
     spans: &[Span],
-) -> bool
+) -> Result<(), RefutationFault>
     requires { depth ≤ 1 }
     ensures { CopiedAs (unroll (M.meaning machine.now) depth) number stack.old.used stack.new.used literals.old literals.new result }
 {
-    let rows = Unrolling::new(machine, depth);
-    rows.copy(number, stack, literals, spans)
+    Unrolling::new(machine, depth).copy(number, stack, literals, spans)
 }
 
 // The denial of a literal in the next row; no literal is moved beyond the highest.

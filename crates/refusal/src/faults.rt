@@ -1,6 +1,9 @@
 // The faults of each layer, the refusal that holds one whole, and what it tells.
-ghost use Rattle.std.specs.Prelude.{◌≡◌};
+ghost use Rattle.std.specs.Prelude.{◌≡◌, Some};
+ghost use Rattle.refusal.specs.Texts.{layer_text, told_text};
 ghost use Rattle.refusal.specs.Numbers.{number_of_text, number_of_table, number_of_docket, number_of_certificate, number_of_refutation};
+
+use std::fmt;
 
 // The layer that a refusal comes from.
 #[derive(Clone, Copy, PartialEq, Eq, Debug)]
@@ -59,6 +62,10 @@ pub struct TableRefusal {
     pub fault: TableFault,
     pub offset: usize,
 }
+
+// That an area has no free entry for what was to be put there.
+#[derive(Clone, Copy, PartialEq, Eq, Debug)]
+pub struct Full;
 
 // What is refused of a call itself.
 #[derive(Clone, Copy, PartialEq, Eq, Debug)]
@@ -146,6 +153,16 @@ impl TextFault {
             TextFault::Literal => 17,
         }
     }
+
+    // The refusal for this fault in the line that begins at an offset.
+    pub fn at(self, offset: usize) -> TextRefusal
+        ensures { result ≡ record { fault = self; offset = offset } }
+    {
+        TextRefusal {
+            fault: self,
+            offset,
+        }
+    }
 }
 
 impl TableFault {
@@ -158,6 +175,16 @@ impl TableFault {
             TableFault::NoRow => 43,
             TableFault::RowNumbers => 44,
             TableFault::Ending => 45,
+        }
+    }
+
+    // The refusal for this fault in the record that begins at an offset.
+    pub fn at(self, offset: usize) -> TableRefusal
+        ensures { result ≡ record { fault = self; offset = offset } }
+    {
+        TableRefusal {
+            fault: self,
+            offset,
         }
     }
 }
@@ -189,6 +216,17 @@ impl CertificateFault {
             CertificateFault::Refutation(fault) => fault.number(),
         }
     }
+
+    // The refusal for this fault in the record that begins at an offset, under a question.
+    pub fn at(self, offset: usize, question: u32) -> CertificateRefusal
+        ensures { result ≡ record { fault = self; offset = offset; question = question } }
+    {
+        CertificateRefusal {
+            fault: self,
+            offset,
+            question,
+        }
+    }
 }
 
 impl RefutationFault {
@@ -201,5 +239,33 @@ impl RefutationFault {
             RefutationFault::Full => 27,
             RefutationFault::NotRefuted => 29,
         }
+    }
+}
+
+impl fmt::Display for Layer {
+    ghost output = { λ l. Some (layer_text l) };
+
+    fn fmt<W: fmt::Write>(&self, f: &mut fmt::Formatter<W>) -> fmt::Result {
+        match self {
+            Layer::Text => write!(f, "text"),
+            Layer::Table => write!(f, "table"),
+            Layer::Docket => write!(f, "docket"),
+            Layer::Certificate => write!(f, "certificate"),
+            Layer::Refutation => write!(f, "refutation"),
+        }
+    }
+}
+
+impl fmt::Display for Told {
+    ghost output = { λ t. Some (told_text t) };
+
+    fn fmt<W: fmt::Write>(&self, f: &mut fmt::Formatter<W>) -> fmt::Result {
+        let Told {
+            number,
+            layer,
+            offset,
+            question,
+        } = *self;
+        write!(f, "{number} {layer}, offset {offset}, question {question}")
     }
 }

@@ -3,14 +3,15 @@
 
 ghost use Rattle.std.specs.Prelude.{◌≡◌};
 ghost use Rattle.refusal.specs.Numbers.{told};
-ghost use Rattle.refusal.specs.declared.faults.CertificateFault.TheVariants.{Refutation as OfRefutation};
+ghost use Rattle.refusal.specs.declared.faults.CertificateFault.TheVariants.{Refutation as OfRefutation, Full as FullOf};
+ghost use Rattle.refusal.specs.declared.faults.RefutationFault.TheVariants.{Full as NoneFree};
 ghost use Rattle.refusal.specs.declared.faults.Refusal.TheVariants.{Text, Table, Docket, Certificate, Refutation};
 
 mod faults;
 
 pub use faults::{
-    CertificateFault, CertificateRefusal, DocketFault, Layer, Refusal, RefutationFault, TableFault,
-    TableRefusal, TextFault, TextRefusal, Told,
+    CertificateFault, CertificateRefusal, DocketFault, Full, Layer, Refusal, RefutationFault,
+    TableFault, TableRefusal, TextFault, TextRefusal, Told,
 };
 
 impl From<TextRefusal> for Refusal {
@@ -50,6 +51,22 @@ impl From<RefutationFault> for CertificateFault {
 
     fn from(e: RefutationFault) -> CertificateFault {
         CertificateFault::Refutation(e)
+    }
+}
+
+impl From<Full> for RefutationFault {
+    ghost from_gives = { λ e r. r ≡ NoneFree };
+
+    fn from(e: Full) -> RefutationFault {
+        RefutationFault::Full
+    }
+}
+
+impl From<Full> for CertificateFault {
+    ghost from_gives = { λ e r. r ≡ FullOf };
+
+    fn from(e: Full) -> CertificateFault {
+        CertificateFault::Full
     }
 }
 

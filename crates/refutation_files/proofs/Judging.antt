@@ -6,8 +6,8 @@ use Rattle.refute.specs.declared.steps.Step.{Step}
 use Rattle.refute.specs.Verdicts.{verdict}
 use Rattle.refutation_files.specs.declared.proof_file.Ending.{Ending}
 use Rattle.refutation_files.specs.declared.proof_file.Ending.TheVariants.{Whole, Cut, More}
-use Rattle.refutation_files.specs.declared.verdict.Verdict.{Verdict}
-use Rattle.refutation_files.specs.declared.verdict.Verdict.TheVariants.{NotARefutation, Refused}
+use Rattle.refutation_files.specs.declared.unproved.Unproved.{Unproved}
+use Rattle.refutation_files.specs.declared.unproved.Unproved.TheVariants.{NotARefutation, Refused}
 use Rattle.refutation_files.specs.ClauseFiles.{ClausesOf}
 use Rattle.refutation_files.specs.ProofFiles.{ProofOf}
 use Rattle.refutation_files.specs.Verdicts.{at_finish, judged, ComesTo}
@@ -23,11 +23,11 @@ module _ (clauses proof : List ℕ) (literals spans : ℕ) (cs : List (List ℕ)
   by_outcome More (Err r) p e u = (cs, steps, More, listed, p, e, tt)
   by_outcome Cut (Err r) p e u = by_fault (at_finish r) e
     where
-      by_fault : (b : Bool) → cond b NotARefutation (Refused r) ≡ judged (verdict cs literals spans steps) Cut (length steps) → ComesTo clauses proof literals spans (cond b NotARefutation (Refused r))
+      by_fault : (b : Bool) → cond b (Err NotARefutation) (Err (Refused r)) ≡ judged (verdict cs literals spans steps) Cut (length steps) → ComesTo clauses proof literals spans (cond b (Err NotARefutation) (Err (Refused r)))
       by_fault true f = (cs, steps, Cut, listed, p, f, tt)
       by_fault false f = (cs, steps, Cut, listed, p, f, tt)
 
-  pub comes : (ending : Ending) (o : Result ℕ Refusal) (n : ℕ) (v : Verdict) → ProofOf proof steps ending → o ≡ verdict cs literals spans steps → OnOk o (Unsat cs) → n ≡ length steps → v ≡ judged o ending n
+  pub comes : (ending : Ending) (o : Result ℕ Refusal) (n : ℕ) (v : Result ℕ Unproved) → ProofOf proof steps ending → o ≡ verdict cs literals spans steps → OnOk o (Unsat cs) → n ≡ length steps → v ≡ judged o ending n
       → ComesTo clauses proof literals spans v
   comes ending o n v p e u size j =
       subst (ComesTo clauses proof literals spans) (sym (j ∙ ap (judged o ending) size))

@@ -1,5 +1,5 @@
 -- Reading clauses one after another.
-use Rattle.std.proofs.Common.{◌≡◌, ℕ, ◌+◌, ◌-◌, ◌<◌, ◌≤◌, true, false, List, [], ◌∷◌, ◌++◌, length, take, drop, sym, refl, ap, ◌∙◌, subst, arith}
+use Rattle.std.proofs.Common.{◌≡◌, ℕ, ◌+◌, ◌-◌, ◌<◌, ◌≤◌, Ok, Err, List, [], ◌∷◌, ◌++◌, length, take, drop, sym, refl, ap, ◌∙◌, subst, arith}
 use Rattle.std.proofs.ByRecursion.{All-push, All-weaker}
 use Rattle.std.proofs.lemmas.List.{append-nil, length-append, length-drop, take_all, take-append-le, drop_at, drop-append-le, flat_map_more, map_push, nil_from_length}
 use Rattle.std.specs.List.{flat_map, AllByRecursion}
@@ -9,7 +9,9 @@ use Rattle.resolution.specs.Clauses.{Rising}
 use Rattle.resolution.specs.Lists.{Proper}
 use Rattle.stack.specs.declared.spans.Span.{Span}
 use Rattle.stack.specs.Runs.{run, runs}
-use Rattle.refutation_files.specs.ClauseFiles.{clause_records, clause_bytes, ClausesOf, Holds, ClauseRead}
+use Rattle.refutation_files.specs.declared.unproved.Unproved.{Unproved}
+use Rattle.refutation_files.specs.declared.unproved.Unproved.TheVariants.{NotAClauseList, NotARefutation, Refused, NoMemory}
+use Rattle.refutation_files.specs.ClauseFiles.{clause_records, clause_bytes, ClausesOf, Holds, ClauseRead, Unlisted}
 use Rattle.refutation_files.proofs.Fronts.{encodes_append, more_records}
 
 -- the span lies within so many literals
@@ -61,10 +63,14 @@ module _ (bytes rest literals : List ℕ) (spans : List Span) (g : Filed bytes r
       by [] q = absurd (omega (arith, ap length q.1))
       by (d ∷ ds) q = (d, ds, q.0.0, q.0.1, q.1 ∙ encodes_append (clause_records d) (flat_map clause_records ds))
 
-  pub none_there : (after all : List ℕ) → ClauseRead rest after literals all false → (cs : List (List ℕ)) → ClausesOf bytes cs → ⊥
-  none_there after all r cs h = let p = next_clause cs h in r p.0 (encodes (flat_map clause_records p.1)) p.2 p.4
+  -- why a clause was not read is why none were
+  pub unlisted : (after all : List ℕ) (e : Unproved) → ClauseRead rest after literals all (Err e) → Unlisted bytes e
+  unlisted after all NotAClauseList r = λ cs h. let p = next_clause cs h in r p.0 (encodes (flat_map clause_records p.1)) p.2 p.4
+  unlisted after all NotARefutation r = r
+  unlisted after all (Refused f) r = r
+  unlisted after all (NoMemory f) r = tt
 
-  module _ (after all : List ℕ) (r : ClauseRead rest after literals all true) (s : Span) (start : s.start ≡ length literals) (size : s.length ≡ length all - length literals) where
+  module _ (after all : List ℕ) (r : ClauseRead rest after literals all (Ok tt)) (s : Span) (start : s.start ≡ length literals) (size : s.length ≡ length all - length literals) where
     all_length : length all ≡ length literals + length r.0
     all_length = ap length r.2 ∙ length-append literals r.0
 
@@ -98,10 +104,10 @@ clause_some : (c : List ℕ) → 1 ≤ length (clause_bytes c)
 clause_some [] = omega arith
 clause_some (x ∷ xs) = omega arith
 
-pub clause_shorter : (bytes after literals all : List ℕ) → ClauseRead bytes after literals all true → length after < length bytes
+pub clause_shorter : (bytes after literals all : List ℕ) → ClauseRead bytes after literals all (Ok tt) → length after < length bytes
 clause_shorter bytes after literals all r = omega (arith, ap length r.3, length-append (clause_bytes r.0) after, clause_some r.0)
 
-pub clause_longer : (bytes after literals all : List ℕ) → ClauseRead bytes after literals all true → length literals ≤ length all
+pub clause_longer : (bytes after literals all : List ℕ) → ClauseRead bytes after literals all (Ok tt) → length literals ≤ length all
 clause_longer bytes after literals all r = omega (arith, ap length r.2, length-append literals r.0)
 
 -- spans within the literals of rising clauses are those of a table

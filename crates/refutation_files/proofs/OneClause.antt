@@ -1,11 +1,12 @@
 -- Reading one clause, record by record.
-use Rattle.std.proofs.Common.{◌≡◌, ℕ, ◌-◌, ◌<◌, true, false, List, [], ◌∷◌, ◌++◌, map, length, take, drop, None, sym, refl, ap, ◌∙◌, subst, arith}
+use Rattle.std.proofs.Common.{◌≡◌, ℕ, ◌-◌, ◌<◌, Ok, Err, List, [], ◌∷◌, ◌++◌, map, length, take, drop, None, sym, refl, ap, ◌∙◌, subst, arith}
 use Rattle.std.proofs.lemmas.List.{append_assoc, append-nil, map-append, take_rest, drop_at}
 use Rattle.std.specs.List.{AllByRecursion}
 use Rattle.certificate.specs.declared.record.Record.{Record}
 use Rattle.certificate.specs.declared.record.Record.TheVariants.{Literal, ClauseEnd}
 use Rattle.certificate.specs.Records.{encode, encodes, Taken}
 use Rattle.resolution.specs.Clauses.{Rising}
+use Rattle.refutation_files.specs.declared.unproved.Unproved.TheVariants.{NotAClauseList}
 use Rattle.refutation_files.specs.ClauseFiles.{clause_bytes, ClauseRead}
 use Rattle.refutation_files.proofs.Fronts.{same_front, more_records}
 use Rattle.refutation_files.proofs.Ordering.{rising_push, rising_below}
@@ -54,14 +55,14 @@ module _ (bytes rest literals all : List ℕ) (g : Begun bytes rest literals all
           (q.0, p.1 ∙ ap (λ (x : List ℕ). g.clause ++ x) q.1 ∙ sym (append_assoc g.clause (l ∷ []) q.0), q.2);
     }
 
-    pub read_fallen : (AllByRecursion (λ y. y < l) g.clause → ⊥) → ClauseRead bytes after literals all false
+    pub read_fallen : (AllByRecursion (λ y. y < l) g.clause → ⊥) → ClauseRead bytes after literals all (Err NotAClauseList)
     read_fallen n d more r w =
         let p = g.ahead d more w in
         let q = literal_next p.0 more p.2 in
         n (rising_below g.clause q.0 l (subst Rising (p.1 ∙ ap (λ (x : List ℕ). g.clause ++ x) q.1) r))
 
   -- the end of the clause
-  pub read_ended : (after : List ℕ) → rest ≡ encode ClauseEnd ++ after → ClauseRead bytes after literals all true
+  pub read_ended : (after : List ℕ) → rest ≡ encode ClauseEnd ++ after → ClauseRead bytes after literals all (Ok tt)
   read_ended after is = (
     g.clause,
     g.rising,
@@ -75,17 +76,17 @@ module _ (bytes rest literals all : List ℕ) (g : Begun bytes rest literals all
       end_next (x ∷ f) more w = let z : Literal x ≡ ClauseEnd = (same_front (Literal x) ClauseEnd (clause_bytes f ++ more) after (sym w ∙ is)).0 in let n : ◌≡◌ {A = ℕ} 0 1 = cc in absurd (omega arith)
 
   -- no record, or one that is neither
-  stopped : (after : List ℕ) → ((l : ℕ) (more : List ℕ) → rest ≡ encode (Literal l) ++ more → ⊥) → ((more : List ℕ) → rest ≡ encode ClauseEnd ++ more → ⊥) → ClauseRead bytes after literals all false
+  stopped : (after : List ℕ) → ((l : ℕ) (more : List ℕ) → rest ≡ encode (Literal l) ++ more → ⊥) → ((more : List ℕ) → rest ≡ encode ClauseEnd ++ more → ⊥) → ClauseRead bytes after literals all (Err NotAClauseList)
   stopped after n m d more r w = let p = g.ahead d more w in by p.0 p.2
     where
       by : (e : List ℕ) → rest ≡ clause_bytes e ++ more → ⊥
       by [] v = m more v
       by (x ∷ f) v = n x (clause_bytes f ++ more) v
 
-  pub read_none : (after : List ℕ) → Taken rest after None → ClauseRead bytes after literals all false
+  pub read_none : (after : List ℕ) → Taken rest after None → ClauseRead bytes after literals all (Err NotAClauseList)
   read_none after t = stopped after (λ l more. t.1 (Literal l) more) (t.1 ClauseEnd)
 
-  pub read_other : (r : Record) (after : List ℕ) → rest ≡ encode r ++ after → ((l : ℕ) → r ≡ Literal l → ⊥) → (r ≡ ClauseEnd → ⊥) → ClauseRead bytes after literals all false
+  pub read_other : (r : Record) (after : List ℕ) → rest ≡ encode r ++ after → ((l : ℕ) → r ≡ Literal l → ⊥) → (r ≡ ClauseEnd → ⊥) → ClauseRead bytes after literals all (Err NotAClauseList)
   read_other r after is n m = stopped after
       (λ l more v. n l (same_front r (Literal l) after more (sym is ∙ v)).0)
       (λ more v. m (same_front r ClauseEnd after more (sym is ∙ v)).0)

@@ -1,10 +1,10 @@
 -- Rising clauses, by their last literal.
-use Rattle.std.proofs.Common.{◌≡◌, ℕ, suc, ◌-◌, ◌<◌, ◌≤◌, Bool, true, false, ltb, List, [], ◌∷◌, ◌++◌, length, get_or, subst, arith}
-use Rattle.std.proofs.ByRecursion.{All-push, All-get_or, All-from_get_or}
-use Rattle.std.proofs.lemmas.Bool.{ltb-true, ltb-false}
+use Rattle.std.proofs.Common.{◌≡◌, ℕ, suc, ◌-◌, ◌<◌, ◌≤◌, true, false, List, [], ◌∷◌, ◌++◌, length, get_or, subst, arith}
+use Rattle.std.proofs.ByRecursion.{All-push, All-get_or}
+use Rattle.std.proofs.lemmas.Bool.Decides.{nat_tests}
 use Rattle.std.specs.List.{AllByRecursion}
 use Rattle.resolution.specs.Clauses.{Rising}
-use Rattle.refutation_files.specs.ClauseFiles.{Fits}
+use Rattle.resolution.specs.Lists.{above}
 
 pub rising_push : (c : List ℕ) (l : ℕ) → Rising c → AllByRecursion (λ y. y < l) c → Rising (c ++ l ∷ [])
 rising_push [] l r a = (tt, tt)
@@ -26,12 +26,16 @@ last_below (x ∷ y ∷ ys) l r h =
     let t = last_below (y ∷ ys) l r.1 (subst (λ (k : ℕ). get_or (x ∷ y ∷ ys) k 0 < l) e h) in
     (omega (arith, r.0.0, t.0), t)
 
-pub fits_none : (c : List ℕ) (l : ℕ) → length c < 1 → Fits c l true
-fits_none c l h = All-from_get_or (λ y. y < l) c 0 (λ i k. absurd (omega arith))
+-- a literal above the last one of a rising clause is above all of them, and no other is
+pub above_all : (c : List ℕ) (l : ℕ) → Rising c → above c l ≡ true → AllByRecursion (λ y. y < l) c
+unfolding above
+above_all [] l r h = tt
+above_all (x ∷ xs) l r h = let n : get_or (x ∷ xs) (length (x ∷ xs) - 1) 0 < l = grind (arith, nat_tests) in last_below (x ∷ xs) l r n
 
-pub fits_last : (c : List ℕ) (l : ℕ) (b : Bool) → Rising c → 1 ≤ length c → ltb (get_or c (length c - 1) 0) l ≡ b → Fits c l b
-fits_last c l true r h e = last_below c l r (ltb-true _ _ e)
-fits_last c l false r h e = λ a.
-    let n = ltb-false (get_or c (length c - 1) 0) l e in
-    let k = All-get_or (λ y. y < l) c (length c - 1) 0 (omega arith) a in
+pub not_above : (c : List ℕ) (l : ℕ) → above c l ≡ false → AllByRecursion (λ y. y < l) c → ⊥
+unfolding above
+not_above [] l h a = let n : ◌≡◌ {A = ℕ} 0 1 = cc in absurd (omega arith)
+not_above (x ∷ xs) l h a =
+    let n : l ≤ get_or (x ∷ xs) (length (x ∷ xs) - 1) 0 = grind (arith, nat_tests) in
+    let k = All-get_or (λ y. y < l) (x ∷ xs) (length (x ∷ xs) - 1) 0 (omega arith) a in
     omega arith

@@ -1,6 +1,5 @@
 -- What a clause file and a proof file come to.
 use Rattle.std.specs.Prelude.{◌≡◌, ℕ, ◌+◌, Bool, true, false, cond, List, length, Ok, Err, Result}
-use Rattle.std.specs.declared.alloc.AllocError.{AllocError}
 use Rattle.refusal.specs.declared.faults.Refusal.{Refusal}
 use Rattle.refusal.specs.declared.faults.Refusal.TheVariants.{Text, Table, Docket, Certificate, Refutation}
 use Rattle.refusal.specs.declared.faults.RefutationFault.TheVariants.{NoClause, NoPivot, Full, NotRefuted}
@@ -9,8 +8,8 @@ use Rattle.refute.specs.declared.steps.Step.{Step}
 use Rattle.refute.specs.Verdicts.{verdict}
 use Rattle.refutation_files.specs.declared.proof_file.Ending.{Ending}
 use Rattle.refutation_files.specs.declared.proof_file.Ending.TheVariants.{Whole, Cut, More}
-use Rattle.refutation_files.specs.declared.verdict.Verdict.{Verdict}
-use Rattle.refutation_files.specs.declared.verdict.Verdict.TheVariants.{Refuted, NotAClauseList, NotARefutation, Refused}
+use Rattle.refutation_files.specs.declared.unproved.Unproved.{Unproved}
+use Rattle.refutation_files.specs.declared.unproved.Unproved.TheVariants.{NotAClauseList, NotARefutation, Refused, NoMemory}
 use Rattle.refutation_files.specs.ClauseFiles.{ClausesOf}
 use Rattle.refutation_files.specs.ProofFiles.{ProofOf}
 
@@ -26,38 +25,37 @@ at_finish (Refutation Full) = false
 at_finish (Refutation NotRefuted) = true
 
 -- a refusal of the steps comes before a fault of form after them, and that before a granted finish
-abbrev pub judged : Result ℕ Refusal → Ending → ℕ → Verdict
-judged (Ok n) Whole steps = Refuted (steps + 1)
-judged (Ok n) Cut steps = NotARefutation
-judged (Ok n) More steps = NotARefutation
-judged (Err r) Whole steps = Refused r
-judged (Err r) Cut steps = cond (at_finish r) NotARefutation (Refused r)
-judged (Err r) More steps = Refused r
+abbrev pub judged : Result ℕ Refusal → Ending → ℕ → Result ℕ Unproved
+judged (Ok n) Whole steps = Ok (steps + 1)
+judged (Ok n) Cut steps = Err NotARefutation
+judged (Ok n) More steps = Err NotARefutation
+judged (Err r) Whole steps = Err (Refused r)
+judged (Err r) Cut steps = cond (at_finish r) (Err NotARefutation) (Err (Refused r))
+judged (Err r) More steps = Err (Refused r)
 
--- a verdict of `refuted` shows that no setting satisfies the clauses
-abbrev pub Shows : Verdict → List (List ℕ) → Type 0
-Shows (Refuted n) cs = Unsat cs
-Shows NotAClauseList cs = Unit {0}
-Shows NotARefutation cs = Unit {0}
-Shows (Refused r) cs = Unit {0}
+-- a number of records shows that no setting satisfies the clauses
+abbrev pub Shows : Result ℕ Unproved → List (List ℕ) → Type 0
+Shows (Ok n) cs = Unsat cs
+Shows (Err e) cs = Unit {0}
 
 -- the files are clauses, and steps with such an ending, and the verdict is what these come to
-abbrev pub Judged : List ℕ → List ℕ → ℕ → ℕ → Verdict → Type 0
+abbrev pub Judged : List ℕ → List ℕ → ℕ → ℕ → Result ℕ Unproved → Type 0
 Judged clauses proof literals spans v =
     (cs : List (List ℕ)) × (steps : List Step) × (ending : Ending)
     × ClausesOf clauses cs × ProofOf proof steps ending × (v ≡ judged (verdict cs literals spans steps) ending (length steps)) × Shows v cs
 
 -- in areas of so many literals and spans
-abbrev pub ComesTo : List ℕ → List ℕ → ℕ → ℕ → Verdict → Type 0
-ComesTo clauses proof literals spans (Refuted n) = Judged clauses proof literals spans (Refuted n)
-ComesTo clauses proof literals spans NotAClauseList = (cs : List (List ℕ)) → ClausesOf clauses cs → ⊥
-ComesTo clauses proof literals spans NotARefutation = Judged clauses proof literals spans NotARefutation
-ComesTo clauses proof literals spans (Refused r) = Judged clauses proof literals spans (Refused r)
+abbrev pub ComesTo : List ℕ → List ℕ → ℕ → ℕ → Result ℕ Unproved → Type 0
+ComesTo clauses proof literals spans (Ok n) = Judged clauses proof literals spans (Ok n)
+ComesTo clauses proof literals spans (Err NotAClauseList) = (cs : List (List ℕ)) → ClausesOf clauses cs → ⊥
+ComesTo clauses proof literals spans (Err NotARefutation) = Judged clauses proof literals spans (Err NotARefutation)
+ComesTo clauses proof literals spans (Err (Refused r)) = Judged clauses proof literals spans (Err (Refused r))
+ComesTo clauses proof literals spans (Err (NoMemory e)) = Unit {0}
 
 -- one thing where the proof was carried out, another where it was not come to
-abbrev pub reached : {X : Type 0} → Result Verdict AllocError → X → X → X
-reached (Ok (Refuted n)) x y = x
-reached (Ok NotAClauseList) x y = y
-reached (Ok NotARefutation) x y = x
-reached (Ok (Refused r)) x y = x
-reached (Err e) x y = y
+abbrev pub reached : {X : Type 0} → Result ℕ Unproved → X → X → X
+reached (Ok n) x y = x
+reached (Err NotAClauseList) x y = y
+reached (Err NotARefutation) x y = x
+reached (Err (Refused r)) x y = x
+reached (Err (NoMemory e)) x y = y

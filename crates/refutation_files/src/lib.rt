@@ -6,14 +6,14 @@ mod clause_file;
 mod clauses;
 mod proof_file;
 mod steps;
-mod verdict;
+mod unproved;
 
 pub use checking::refute_files;
 pub use clause_file::ClauseFile;
 pub use clauses::read_clauses;
 pub use proof_file::{Ending, ProofFile};
 pub use steps::read_steps;
-pub use verdict::Verdict;
+pub use unproved::Unproved;
 
 #[cfg(test)]
 mod tests;

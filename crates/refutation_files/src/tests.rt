@@ -6,13 +6,13 @@ use std::test::Fail;
 #[test]
 fn clauses_are_read(rt: HostRuntime) -> Result<(), Fail> {
     let bytes = [2, 8, 0, 0, 0, 2, 18, 0, 0, 0, 3, 2, 19, 0, 0, 0, 3, 3];
-    let file = read_clauses(rt.alloc(), &bytes)?.ok_or("refused")?;
+    let file = read_clauses(rt.alloc(), &bytes).ok().ok_or("refused")?;
     assert!(rt; file.literals.as_slice() == [8, 18, 19].as_slice());
     assert!(rt; file.spans.len() == 3);
     assert_eq!(rt; file.spans[0].length, 2);
     assert_eq!(rt; file.spans[1].start, 2);
     assert_eq!(rt; file.spans[2].length, 0);
-    let none = read_clauses(rt.alloc(), &[])?.ok_or("refused")?;
+    let none = read_clauses(rt.alloc(), &[]).ok().ok_or("refused")?;
     assert_eq!(rt; none.spans.len(), 0);
     Ok(())
 }
@@ -21,11 +21,23 @@ fn clauses_are_read(rt: HostRuntime) -> Result<(), Fail> {
 #[test]
 fn clauses_are_refused(rt: HostRuntime) -> Result<(), Fail> {
     let falling = [2, 8, 0, 0, 0, 2, 8, 0, 0, 0, 3];
-    assert!(rt; read_clauses(rt.alloc(), &falling)?.is_none());
+    assert_eq!(rt;
+        read_clauses(rt.alloc(), &falling).err(),
+        Some(Unproved::NotAClauseList)
+    );
     let unfinished = [2, 8, 0, 0, 0, 3, 2, 18, 0, 0, 0];
-    assert!(rt; read_clauses(rt.alloc(), &unfinished)?.is_none());
-    assert!(rt; read_clauses(rt.alloc(), &[3, 4])?.is_none());
-    assert!(rt; read_clauses(rt.alloc(), &[2, 8, 0, 0])?.is_none());
+    assert_eq!(rt;
+        read_clauses(rt.alloc(), &unfinished).err(),
+        Some(Unproved::NotAClauseList)
+    );
+    assert_eq!(rt;
+        read_clauses(rt.alloc(), &[3, 4]).err(),
+        Some(Unproved::NotAClauseList)
+    );
+    assert_eq!(rt;
+        read_clauses(rt.alloc(), &[2, 8, 0, 0]).err(),
+        Some(Unproved::NotAClauseList)
+    );
     Ok(())
 }
 

@@ -1,19 +1,18 @@
 -- A list of steps under way.
-use Rattle.std.proofs.Common.{◌≡◌, ℕ, ◌+◌, ◌<◌, ◌≤◌, true, false, List, [], ◌∷◌, ◌++◌, length, get_or, take, drop, IfOk, Ok, Err, Result, sym, refl, ap, ◌∙◌, subst, ⊎_elim, arith}
+use Rattle.std.proofs.Common.{◌≡◌, ℕ, ◌+◌, ◌<◌, ◌≤◌, true, false, List, [], ◌∷◌, ◌++◌, length, get_or, take, drop, IfOk, Ok, Err, Result, sym, refl, ap, ◌∙◌, subst, arith}
 use Rattle.std.proofs.lemmas.List.{at_drop_more, at_drop_all}
-use Rattle.std.proofs.lemmas.Bool.{cond-true, cond-false, cases_Bool}
-use Rattle.refusal.specs.declared.faults.DocketFault.TheVariants.{UnfitArea}
+use Rattle.std.proofs.lemmas.Bool.{cond-false}
 use Rattle.refusal.specs.declared.faults.RefutationFault.{RefutationFault}
 use Rattle.refusal.specs.declared.faults.RefutationFault.TheVariants.{NoClause}
 use Rattle.stack.specs.declared.spans.Span.{Span}
 use Rattle.resolution.specs.declared.refutation.Refutation.{Refutation}
 use Rattle.resolution.specs.declared.refutation.Refuted.{Refuted}
 use Rattle.resolution.specs.Outcomes.{admitted, takes, resolves, numbered, added, granted}
-use Rattle.resolution.specs.States.{own, grown, fresh, started, closed, ended, entries, Standing, Follows, Steps, Carries}
+use Rattle.resolution.specs.States.{own, grown, fresh, closed, ended, entries, Standing, Follows, Steps, Carries}
 use Rattle.resolution.proofs.Owned.{length_own, fresh_stands}
 use Rattle.refute.specs.declared.steps.Step.{Step}
 use Rattle.refute.specs.declared.steps.Step.TheVariants.{Take, Resolve}
-use Rattle.refute.specs.Verdicts.{stepped, attempted, next, ran, concluded, told_of, verdict}
+use Rattle.refute.specs.Verdicts.{stepped, attempted, next, ran, concluded}
 
 -- i steps are taken, and the others come to what all came to
 pub record Running (list : List (List ℕ)) (literals spans : ℕ) (steps : List Step) (i : ℕ) (t : Refutation) (ls : List ℕ) (ps : List Span) : Type 0 where
@@ -124,16 +123,3 @@ zero_is (Err e) ms zs zs' ls qs ws ws' ps a b c d = tt
 
 pub answer_is : (r : Result Refuted RefutationFault) (ds : List (List ℕ)) (o : Result (List (List ℕ)) RefutationFault) → r ≡ ended ds → Ok ds ≡ o → r ≡ concluded o
 answer_is r ds o h e = h ∙ ap concluded e
-
--- a start that was granted
-pub start_admits : (ls : List ℕ) (ps : List Span) (t : Refutation) → Ok t ≡ started ls ps → admitted (length ls) (length ps) ≡ true
-start_admits ls ps t h =
-    ⊎_elim (λ e. e)
-    (λ e. let w : started ls ps ≡ Err UnfitArea = cond-false (admitted (length ls) (length ps)) (Ok (fresh 0 0)) (Err UnfitArea) e in
-    let z : ◌≡◌ {A = ℕ} 0 1 = cc in absurd (omega arith))
-    (cases_Bool (admitted (length ls) (length ps)))
-
-pub verdict_is : (list now : List (List ℕ)) (l l' s s' : ℕ) (steps : List Step) (r : Result Refuted RefutationFault) → admitted l s ≡ true → now ≡ list → l' ≡ l → s' ≡ s → r ≡ concluded (ran now l' s' steps []) → told_of r ≡ verdict list l s steps
-verdict_is list now l l' s s' steps r h a b c e =
-    ap told_of (e ∙ ap (λ z. concluded (ran z l' s' steps [])) a ∙ ap (λ z. concluded (ran list z s' steps [])) b ∙ ap (λ z. concluded (ran list l z steps [])) c)
-    ∙ sym (cond-true (admitted l s) (told_of (concluded (ran list l s steps []))) _ h)

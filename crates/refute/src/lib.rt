@@ -69,20 +69,11 @@ pub fn refute<L: ClauseList>(
     ensures spans { spans.new ≡ (if admitted (length literals.old) (length spans.old) then no_spans spans.old else spans.old) }
 {
     let mut refutation = Refutation::start(literals, spans)?;
-    let outcome: Result<Refuted, RefutationFault> = attempt(
-        &mut refutation,
-        list,
-        steps,
-        literals,
-        spans,
-    );
-    match outcome {
-        Ok(refuted) => Ok(refuted.spend()),
-        Err(fault) => {
-            refutation.give_up(literals, spans);
-            Err(fault.into())
-        }
+    let outcome = attempt(&mut refutation, list, steps, literals, spans);
+    if outcome.is_err() {
+        refutation.give_up(literals, spans);
     }
+    Ok(outcome?.spend())
 }
 
 #[cfg(test)]

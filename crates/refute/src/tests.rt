@@ -5,10 +5,9 @@ use resolution::{ClauseTable, Refutation};
 use stack::{Span, Stack};
 use std::test::Fail;
 
-const NONE: Span = Span {
-    start: 0,
-    length: 0,
-};
+fn span(start: u32, length: u32) -> Span {
+    Span { start, length }
+}
 
 // Resolves clauses 0 and 1 of a table; the areas stay.
 fn resolvent(
@@ -17,7 +16,7 @@ fn resolvent(
     literals: &mut [u32],
     spans: &mut [Span],
 ) -> Result<usize, RefutationFault> {
-    let mut refutation = Refutation::above(Stack { used: 0 }, Stack { used: 0 });
+    let mut refutation = Refutation::above(Stack::default(), Stack::default());
     let _ = refutation.take(table, 0, literals, spans);
     let _ = refutation.take(table, 1, literals, spans);
     let made = refutation.resolve(0, 1, pivot, literals, spans);
@@ -28,19 +27,10 @@ fn resolvent(
 #[test]
 fn on_a_literal_of_left(rt: HostRuntime) -> Result<(), Fail> {
     let clauses = [8u32, 18, 19];
-    let places = [
-        Span {
-            start: 0,
-            length: 2,
-        },
-        Span {
-            start: 2,
-            length: 1,
-        },
-    ];
+    let places = [span(0, 2), span(2, 1)];
     let table = ClauseTable::new(&clauses, &places).ok_or("no table")?;
     let mut literals = [0u32; 4];
-    let mut spans = [NONE; 3];
+    let mut spans = [Span::default(); 3];
     assert_eq!(rt;
         resolvent(&table, 19, &mut literals, &mut spans),
         Err(RefutationFault::NoPivot)
@@ -55,23 +45,14 @@ fn on_a_literal_of_left(rt: HostRuntime) -> Result<(), Fail> {
 #[test]
 fn one_entry_short(rt: HostRuntime) -> Result<(), Fail> {
     let clauses = [8u32, 18, 19];
-    let places = [
-        Span {
-            start: 0,
-            length: 2,
-        },
-        Span {
-            start: 2,
-            length: 1,
-        },
-    ];
+    let places = [span(0, 2), span(2, 1)];
     let table = ClauseTable::new(&clauses, &places).ok_or("no table")?;
     assert_eq!(rt;
-        resolvent(&table, 18, &mut [0; 3], &mut [NONE; 3]),
+        resolvent(&table, 18, &mut [0; 3], &mut [Span::default(); 3]),
         Err(RefutationFault::Full)
     );
     assert_eq!(rt;
-        resolvent(&table, 18, &mut [0; 4], &mut [NONE; 2]),
+        resolvent(&table, 18, &mut [0; 4], &mut [Span::default(); 2]),
         Err(RefutationFault::Full)
     );
     Ok(())
@@ -80,19 +61,10 @@ fn one_entry_short(rt: HostRuntime) -> Result<(), Fail> {
 #[test]
 fn a_literal_of_both_once(rt: HostRuntime) -> Result<(), Fail> {
     let clauses = [4u32, 5, 9, 5, 11];
-    let places = [
-        Span {
-            start: 0,
-            length: 3,
-        },
-        Span {
-            start: 3,
-            length: 2,
-        },
-    ];
+    let places = [span(0, 3), span(3, 2)];
     let table = ClauseTable::new(&clauses, &places).ok_or("no table")?;
     let mut literals = [0u32; 9];
-    let mut spans = [NONE; 3];
+    let mut spans = [Span::default(); 3];
     assert_eq!(rt; resolvent(&table, 4, &mut literals, &mut spans), Ok(2));
     assert_eq!(rt; literals, [4, 5, 9, 5, 11, 5, 9, 11, 0]);
     assert_eq!(rt; spans[2].length, 3);
@@ -102,16 +74,7 @@ fn a_literal_of_both_once(rt: HostRuntime) -> Result<(), Fail> {
 #[test]
 fn whole_refutations(rt: HostRuntime) -> Result<(), Fail> {
     let clauses = [0u32, 1];
-    let places = [
-        Span {
-            start: 0,
-            length: 1,
-        },
-        Span {
-            start: 1,
-            length: 1,
-        },
-    ];
+    let places = [span(0, 1), span(1, 1)];
     let table = ClauseTable::new(&clauses, &places).ok_or("no table")?;
     let steps = [
         Step::Take(0),
@@ -123,7 +86,7 @@ fn whole_refutations(rt: HostRuntime) -> Result<(), Fail> {
         },
     ];
     let mut literals = [7u32; 2];
-    let mut spans = [NONE; 3];
+    let mut spans = [Span::default(); 3];
     assert_eq!(rt; refute(&table, &steps, &mut literals, &mut spans), Ok(3));
     assert_eq!(rt; literals, [0, 0]);
     assert_eq!(rt;
@@ -140,19 +103,17 @@ fn whole_refutations(rt: HostRuntime) -> Result<(), Fail> {
 #[test]
 fn no_clause_at_all(rt: HostRuntime) -> Result<(), Fail> {
     let table = ClauseTable::new(&[], &[]).ok_or("no table")?;
-    match refute(&table, &[], &mut [], &mut []) {
-        Ok(_) => Err(Fail::new("refuted")),
-        Err(refusal) => {
-            assert_eq!(rt; refusal.told().number, 29);
-            Ok(())
-        },
-    }
+    let refusal = refute(&table, &[], &mut [], &mut [])
+        .err()
+        .ok_or("refuted")?;
+    assert_eq!(rt; refusal.told().number, 29);
+    Ok(())
 }
 
 #[test]
 fn areas_too_long(rt: HostRuntime) -> Result<(), Fail> {
     let table = ClauseTable::new(&[], &[]).ok_or("no table")?;
-    let mut spans = [NONE; 65537];
+    let mut spans = [Span::default(); 65537];
     assert_eq!(rt;
         refute(&table, &[], &mut [], &mut spans),
         Err(Refusal::Docket(DocketFault::UnfitArea))
@@ -166,31 +127,7 @@ fn is_table(literals: &[u32], span: Span) -> bool {
 
 #[test]
 fn clauses_that_do_not_rise(rt: HostRuntime) {
-    assert!(rt;
-        is_table(
-            &[4, 5],
-            Span {
-                start: 0,
-                length: 2,
-            },
-        )
-    );
-    assert!(rt;
-        !is_table(
-            &[4, 4],
-            Span {
-                start: 0,
-                length: 2,
-            },
-        )
-    );
-    assert!(rt;
-        !is_table(
-            &[4, 5],
-            Span {
-                start: 1,
-                length: 2,
-            },
-        )
-    );
+    assert!(rt; is_table(&[4, 5], span(0, 2),));
+    assert!(rt; !is_table(&[4, 4], span(0, 2),));
+    assert!(rt; !is_table(&[4, 5], span(1, 2),));
 }

@@ -11,8 +11,7 @@ use Rattle.resolution.specs.States.{own, fresh, Standing, Follows}
 use Rattle.resolution.proofs.Owned.{fresh_stands}
 use Rattle.certificate.specs.declared.record.Record.{Record}
 use Rattle.certificate.specs.Records.{encode, encodes, read}
-use Rattle.refuting.specs.declared.Turn.{Turn}
-use Rattle.refuting.specs.declared.Turn.TheVariants.{Next, End}
+use Rattle.certificate.specs.declared.record.Record.TheVariants.{RefutationEnd}
 use Rattle.refuting.specs.Rooms.{Room, room_of, Ready}
 use Rattle.refuting.specs.Reading.{made, move, Outcome, refused, reading, refutation_read}
 use Rattle.refuting.specs.Moves.{Made, Moved}
@@ -20,7 +19,7 @@ use Rattle.refuting.specs.Refutations.{Step, Leads, record_of, records, Shows}
 use Rattle.refuting.specs.Checked.{Checked}
 use Rattle.refuting.proofs.Moving.{from_fault, from_end, from_next}
 use Rattle.refuting.proofs.Turns.{reading_none, reading_stops, reading_ends, reading_goes}
-use Rattle.refuting.proofs.Stepping.{move_steps, move_ends, ends_empty}
+use Rattle.refuting.proofs.Stepping.{move_steps, move_ends, end_makes_none, ends_empty}
 use Rattle.refuting.proofs.Accepting.{accepts}
 
 -- what is the same up to a mark is the same up to a lower one
@@ -75,7 +74,12 @@ begins list m n question offset bytes t ls ps e h =
       same = ap (reading list (room_of t ls ps) question (offset + length bytes) (suc (length bytes)) bytes) (sym none);
     }
 
-module _ (list : List (List ℕ)) (m n : ℕ) (room : Room) (question offset : ℕ) (bytes : List ℕ) (ls₀ : List ℕ) (ps₀ : List Span) (h : Ready m n room) where
+module _ (clauses : List ℕ → List Span → List (List ℕ)) (m n : ℕ)
+    (stands : (ls ms : List ℕ) (ps qs : List Span) → take m ms ≡ take m ls → take n qs ≡ take n ps → clauses ms qs ≡ clauses ls ps)
+    (room : Room) (question offset : ℕ) (bytes : List ℕ) (ls₀ : List ℕ) (ps₀ : List Span) (h : Ready m n room) where
+  abbrev list : List (List ℕ)
+  list = clauses ls₀ ps₀
+
   checked : (r : Result ℕ CertificateRefusal) (left ms : List ℕ) (qs : List Span) → refutation_read list room question offset bytes ≡ record { answer = r; left = left }
       → take room.literals_below ms ≡ take room.literals_below ls₀ → take room.spans_below qs ≡ take room.spans_below ps₀
       → IfOk r (λ _. Unsat list) → Shows list room bytes left r → Checked list room question offset bytes left ls₀ ms ps₀ qs r
@@ -108,15 +112,19 @@ module _ (list : List (List ℕ)) (m n : ℕ) (room : Room) (question offset : �
         ∙ ap (λ (x : List ℕ). record { answer = Err (record { fault = NoRecord; offset = at; question = question }); left = x }) (sym e))
         q.literals q.spans tt tt
 
-    module _ (now : List (List ℕ)) (same : now ≡ list) (u : Refutation) (ms : List ℕ) (qs : List Span) (r : Record) (after : List ℕ) (is : read rest ≡ Some (r, after)) where
+    abbrev now : List (List ℕ)
+    now = clauses ls ps
+
+    -- the list has the clauses that it had before
+    same : now ≡ list
+    same = still clauses m n stands room h ls₀ ls ps₀ ps q.literals q.spans
+
+    module _ (u : Refutation) (ms : List ℕ) (qs : List Span) (r : Record) (after : List ℕ) (is : read rest ≡ Some (r, after)) where
       -- what the record did, by the list and the room of the whole refutation
-      here : (x : Result Turn CertificateFault) → Moved now t u ls ms ps qs (move now (room_of t ls ps) (own t ls ps) r) x → Moved list t u ls ms ps qs (move list room (own t ls ps) r) x
+      here : (x : Result (Unit {0}) CertificateFault) → Moved now t u ls ms ps qs (move now (room_of t ls ps) (own t ls ps) r) x → Moved list t u ls ms ps qs (move list room (own t ls ps) r) x
       here x w =
           subst (λ (z : List (List ℕ)). Moved z t u ls ms ps qs (move z room (own t ls ps) r) x) same
           (subst (λ (z : Room). Moved now t u ls ms ps qs (move now z (own t ls ps) r) x) q.room_is w)
-
-      at_turn : (x y : Turn) → x ≡ y → Moved now t u ls ms ps qs (move now (room_of t ls ps) (own t ls ps) r) (Ok x) → Moved now t u ls ms ps qs (move now (room_of t ls ps) (own t ls ps) r) (Ok y)
-      at_turn x y e w = subst (λ (z : Turn). Moved now t u ls ms ps qs (move now (room_of t ls ps) (own t ls ps) r) (Ok z)) e w
 
       -- a record that is refused
       pub out_stop : (f : CertificateFault) → Moved now t u ls ms ps qs (move now (room_of t ls ps) (own t ls ps) r) (Err f) →
@@ -128,9 +136,9 @@ module _ (list : List (List ℕ)) (m n : ℕ) (room : Room) (question offset : �
           (ap (take room.literals_below) p.1 ∙ q.literals) (ap (take room.spans_below) p.2 ∙ q.spans) tt tt
 
       -- the end
-      pub out_end : rest ≡ encode r ++ after → (x : Turn) → x ≡ End → Moved now t u ls ms ps qs (move now (room_of t ls ps) (own t ls ps) r) (Ok x) → Checked list room question offset bytes after ls₀ ms ps₀ qs (Ok (k + 1))
-      out_end wrote x x-is w =
-          let p = from_end list t u ls ms ps qs (move list room (own t ls ps) r) (here (Ok End) (at_turn x End x-is w)) in
+      pub out_end : rest ≡ encode r ++ after → r ≡ RefutationEnd → Moved now t u ls ms ps qs (move now (room_of t ls ps) (own t ls ps) r) (Ok tt) → Checked list room question offset bytes after ls₀ ms ps₀ qs (Ok (k + 1))
+      out_end wrote ends w =
+          let p = from_end list t u ls ms ps qs (move list room (own t ls ps) r) (end_makes_none list room (own t ls ps) r ends) (here (Ok tt) w) in
           let e = move_ends list room (own t ls ps) r p.0 in
           let c = ends_empty (own t ls ps) e.1 in
           let b = q.behind after 1 (record { steps = []; before = take (length (own t ls ps) - 1) (own t ls ps); written = wrote ∙ ap (λ (x : Record). encode x ++ after) e.0; leads = c; counted = refl }) in
@@ -140,7 +148,7 @@ module _ (list : List (List ℕ)) (m n : ℕ) (room : Room) (question offset : �
           (record { steps = b.steps; written = b.written; refutes = record { before = b.before; leads = b.leads }; counted = b.counted })
 
       -- one clause more
-      room_kept : (c : List ℕ) → Made list t u ls ms ps qs c (Ok Next) → length ms ≡ length ls → length qs ≡ length ps → room_of u ms qs ≡ room
+      room_kept : (c : List ℕ) → Made list t u ls ms ps qs c (Ok tt) → length ms ≡ length ls → length qs ≡ length ps → room_of u ms qs ≡ room
       room_kept c g a b =
           ap (λ (i : ℕ). record { literals = i; spans = length qs; literals_below = u.floor; spans_below = u.first }) a
           ∙ ap (λ (i : ℕ). record { literals = length ls; spans = i; literals_below = u.floor; spans_below = u.first }) b
@@ -163,12 +171,12 @@ module _ (list : List (List ℕ)) (m n : ℕ) (room : Room) (question offset : �
             let e : k + suc n ≡ k + 1 + n = omega arith in
             subst (RestIn list room [] bytes left) e b
 
-      on : length after < length rest → length ms ≡ length ls → length qs ≡ length ps → rest ≡ encode r ++ after → Moved now t u ls ms ps qs (move now (room_of t ls ps) (own t ls ps) r) (Ok Next) →
+      on : (r ≡ RefutationEnd → ⊥) → length after < length rest → length ms ≡ length ls → length qs ≡ length ps → rest ≡ encode r ++ after → Moved now t u ls ms ps qs (move now (room_of t ls ps) (own t ls ps) r) (Ok tt) →
           (fuel : ℕ) → length rest ≤ fuel → refutation_read list room question offset bytes ≡ reading list room question (offset + length bytes) (suc fuel) rest (own t ls ps) →
           Running list room question offset bytes ls₀ ps₀ u ms qs after (k + 1)
-      on shorter a b wrote w zero enough e = absurd (omega arith)
-      on shorter a b wrote w (suc fuel) enough e =
-          let p = from_next list t u ls ms ps qs (move list room (own t ls ps) r) (here (Ok Next) w) in
+      on more shorter a b wrote w zero enough e = absurd (omega arith)
+      on more shorter a b wrote w (suc fuel) enough e =
+          let p = from_next list t u ls ms ps qs (move list room (own t ls ps) r) (λ e. more (move_ends list room (own t ls ps) r e).0) (here (Ok tt) w) in
           let g = p.2 in
           let l : t.floor ≡ room.literals_below = ap (λ (z : Room). z.literals_below) q.room_is in
           let s : t.first ≡ room.spans_below = ap (λ (z : Room). z.spans_below) q.room_is in
@@ -187,6 +195,6 @@ module _ (list : List (List ℕ)) (m n : ℕ) (room : Room) (question offset : �
                 ∙ ap (reading list room question (offset + length bytes) (suc fuel) after) (sym g.goes_on.clauses);
           }
 
-      pub goes : length after < length rest → length ms ≡ length ls → length qs ≡ length ps → rest ≡ encode r ++ after → (x : Turn) → x ≡ Next → Moved now t u ls ms ps qs (move now (room_of t ls ps) (own t ls ps) r) (Ok x) →
+      pub goes : (r ≡ RefutationEnd → ⊥) → length after < length rest → length ms ≡ length ls → length qs ≡ length ps → rest ≡ encode r ++ after → Moved now t u ls ms ps qs (move now (room_of t ls ps) (own t ls ps) r) (Ok tt) →
           Running list room question offset bytes ls₀ ps₀ u ms qs after (k + 1)
-      goes shorter a b wrote x x-is w = on shorter a b wrote (at_turn x Next x-is w) q.fuel q.enough q.same
+      goes more shorter a b wrote w = on more shorter a b wrote w q.fuel q.enough q.same

@@ -13,18 +13,10 @@ use Rattle.resolution.specs.States.{own, taken, resolved, entries, Standing, Fol
 use Rattle.resolution.proofs.Owned.{length_own}
 use Rattle.certificate.specs.declared.record.Record.{Record}
 use Rattle.certificate.specs.declared.record.Record.TheVariants.{Take, Resolve}
-use Rattle.refuting.specs.declared.Turn.{Turn}
-use Rattle.refuting.specs.declared.Turn.TheVariants.{Next, End}
+use Rattle.certificate.proofs.Accepting.{err_ok}
 use Rattle.refuting.specs.Rooms.{room_of}
 use Rattle.refuting.specs.Reading.{Move, made, ended, making, move}
 use Rattle.refuting.specs.Moves.{Made, Moved}
-
--- answers that are not the end
-pub not_end : {f : CertificateFault} → ◌≡◌ {A = Result Turn CertificateFault} (Err f) (Ok End) → ⊥
-not_end e = let z : ◌≡◌ {A = ℕ} 0 1 = cc in omega arith
-
-pub next_not_end : ◌≡◌ {A = Result Turn CertificateFault} (Ok Next) (Ok End) → ⊥
-next_not_end e = let z : ◌≡◌ {A = ℕ} 0 1 = cc in omega arith
 
 module _ (t : Refutation) (ls : List ℕ) (ps : List Span) (s : Standing t ls ps) where
   spans_used : t.spans.used ≡ t.first + length (own t ls ps)
@@ -43,7 +35,7 @@ module _ (t : Refutation) (ls : List ℕ) (ps : List Span) (s : Standing t ls ps
       ∙ ap (λ k. resolves (own t ls ps) l r p (t.floor + entries (own t ls ps)) (length ls) k (length ps)) spans_used
 
 module _ (list : List (List ℕ)) (t u : Refutation) (ls ms : List ℕ) (ps qs : List Span) (s : Standing t ls ps) where
-  went : (o : Result (List ℕ) RefutationFault) (k : ℕ) → Steps t u ls ms ps qs o (Ok k) → Carries list (own t ls ps) (own u ms qs) → Moved list t u ls ms ps qs (making o) (Ok Next)
+  went : (o : Result (List ℕ) RefutationFault) (k : ℕ) → Steps t u ls ms ps qs o (Ok k) → Carries list (own t ls ps) (own u ms qs) → Moved list t u ls ms ps qs (making o) (Ok tt)
   went (Ok c) k h w = record {
     answer = refl;
     floor = ap (λ z. z.floor) h.refutation;
@@ -61,8 +53,8 @@ module _ (list : List (List ℕ)) (t u : Refutation) (ls ms : List ℕ) (ps qs :
     take_move : making (taken t list n ls ps) ≡ move list (room_of t ls ps) (own t ls ps) r
     take_move = ap making (take_is t ls ps s list n) ∙ ap (move list (room_of t ls ps) (own t ls ps)) (sym is)
 
-    pub take_went : (k : ℕ) → Steps t u ls ms ps qs (taken t list n ls ps) (Ok k) → Carries list (own t ls ps) (own u ms qs) → Moved list t u ls ms ps qs (move list (room_of t ls ps) (own t ls ps) r) (Ok Next)
-    take_went k h w = subst (λ m. Moved list t u ls ms ps qs m (Ok Next)) take_move (went (taken t list n ls ps) k h w)
+    pub take_went : (k : ℕ) → Steps t u ls ms ps qs (taken t list n ls ps) (Ok k) → Carries list (own t ls ps) (own u ms qs) → Moved list t u ls ms ps qs (move list (room_of t ls ps) (own t ls ps) r) (Ok tt)
+    take_went k h w = subst (λ m. Moved list t u ls ms ps qs m (Ok tt)) take_move (went (taken t list n ls ps) k h w)
 
     pub take_stopped : (e : RefutationFault) → Steps t u ls ms ps qs (taken t list n ls ps) (Err e) → Moved list t u ls ms ps qs (move list (room_of t ls ps) (own t ls ps) r) (Err (OfRefutation e))
     take_stopped e h = subst (λ m. Moved list t u ls ms ps qs m (Err (OfRefutation e))) take_move (stopped (taken t list n ls ps) e h)
@@ -71,8 +63,8 @@ module _ (list : List (List ℕ)) (t u : Refutation) (ls ms : List ℕ) (ps qs :
     resolve_move : making (resolved t left right pivot ls ps) ≡ move list (room_of t ls ps) (own t ls ps) r
     resolve_move = ap making (resolve_is t ls ps s left right pivot) ∙ ap (move list (room_of t ls ps) (own t ls ps)) (sym is)
 
-    pub resolve_went : (k : ℕ) → Steps t u ls ms ps qs (resolved t left right pivot ls ps) (Ok k) → Carries list (own t ls ps) (own u ms qs) → Moved list t u ls ms ps qs (move list (room_of t ls ps) (own t ls ps) r) (Ok Next)
-    resolve_went k h w = subst (λ m. Moved list t u ls ms ps qs m (Ok Next)) resolve_move (went (resolved t left right pivot ls ps) k h w)
+    pub resolve_went : (k : ℕ) → Steps t u ls ms ps qs (resolved t left right pivot ls ps) (Ok k) → Carries list (own t ls ps) (own u ms qs) → Moved list t u ls ms ps qs (move list (room_of t ls ps) (own t ls ps) r) (Ok tt)
+    resolve_went k h w = subst (λ m. Moved list t u ls ms ps qs m (Ok tt)) resolve_move (went (resolved t left right pivot ls ps) k h w)
 
     pub resolve_stopped : (e : RefutationFault) → Steps t u ls ms ps qs (resolved t left right pivot ls ps) (Err e) → Moved list t u ls ms ps qs (move list (room_of t ls ps) (own t ls ps) r) (Err (OfRefutation e))
     resolve_stopped e h = subst (λ m. Moved list t u ls ms ps qs m (Err (OfRefutation e))) resolve_move (stopped (resolved t left right pivot ls ps) e h)
@@ -80,16 +72,17 @@ module _ (list : List (List ℕ)) (t u : Refutation) (ls ms : List ℕ) (ps qs :
 -- which move an answer came from
 module _ (list : List (List ℕ)) (t u : Refutation) (ls ms : List ℕ) (ps qs : List Span) where
   pub from_fault : (m : Result Move CertificateFault) (f : CertificateFault) → Moved list t u ls ms ps qs m (Err f) → (m ≡ Err f) × (ms ≡ ls) × (qs ≡ ps)
-  from_fault (Ok (made c)) f h = let a = h.answer in let z : ◌≡◌ {A = ℕ} 0 1 = cc in absurd (omega arith)
-  from_fault (Ok ended) f h = absurd (not_end h.answer)
+  from_fault (Ok (made c)) f h = absurd (err_ok h.answer)
+  from_fault (Ok ended) f h = absurd (err_ok h.answer)
   from_fault (Err e) f h = let a = h.answer in let z : e ≡ f = cc in (ap Err z, h.literals, h.spans)
 
-  pub from_end : (m : Result Move CertificateFault) → Moved list t u ls ms ps qs m (Ok End) → (m ≡ Ok ended) × (ms ≡ ls) × (qs ≡ ps) × (Follows list (own t ls ps) → Unsat list)
-  from_end (Ok (made c)) h = absurd (next_not_end (sym h.answer))
-  from_end (Ok ended) h = (refl, h.literals, h.spans, h.refutes)
-  from_end (Err e) h = absurd (not_end (sym h.answer))
+  pub from_end : (m : Result Move CertificateFault) → ((c : List ℕ) → m ≡ Ok (made c) → ⊥) → Moved list t u ls ms ps qs m (Ok tt) →
+      (m ≡ Ok ended) × (ms ≡ ls) × (qs ≡ ps) × (Follows list (own t ls ps) → Unsat list)
+  from_end (Ok (made c)) n h = absurd (n c refl)
+  from_end (Ok ended) n h = (refl, h.literals, h.spans, h.refutes)
+  from_end (Err e) n h = absurd (err_ok (sym h.answer))
 
-  pub from_next : (m : Result Move CertificateFault) → Moved list t u ls ms ps qs m (Ok Next) → (c : List ℕ) × (m ≡ Ok (made c)) × Made list t u ls ms ps qs c (Ok Next)
-  from_next (Ok (made c)) h = (c, refl, h)
-  from_next (Ok ended) h = absurd (next_not_end h.answer)
-  from_next (Err e) h = let a = h.answer in let z : ◌≡◌ {A = ℕ} 0 1 = cc in absurd (omega arith)
+  pub from_next : (m : Result Move CertificateFault) → (m ≡ Ok ended → ⊥) → Moved list t u ls ms ps qs m (Ok tt) → (c : List ℕ) × (m ≡ Ok (made c)) × Made list t u ls ms ps qs c (Ok tt)
+  from_next (Ok (made c)) n h = (c, refl, h)
+  from_next (Ok ended) n h = absurd (n refl)
+  from_next (Err e) n h = absurd (err_ok (sym h.answer))

@@ -71,10 +71,14 @@ module _ (list : List (List ℕ)) (room : Room) (own : List (List ℕ)) where
       subst (Stepped list room own (Resolve l r p)) f.0
       (record { step = resolving l r p; is = refl; makes = resolved (ltb-true l (length own) a.0) (ltb-true r (length own) a.1) b.0 b.1; fitting = f.1 })
 
+  -- the record at the end makes no clause
+  pub end_makes_none : (r : Record) → r ≡ RefutationEnd → (c : List ℕ) → move list room own r ≡ Ok (made c) → ⊥
+  end_makes_none r is c e = let w = (when_ok (ends own) (Ok ended) (OfRefutation NotRefuted) (made c) (sym (ap (move list room own) is) ∙ e)).1 in let z : ◌≡◌ {A = ℕ} 0 1 = cc in omega arith
+
   pub move_steps : (r : Record) (c : List ℕ) → move list room own r ≡ Ok (made c) → Stepped list room own r c
   move_steps (Take n) c e = took n c (making_made _ c e)
   move_steps (Resolve l r p) c e = joined l r p c (making_made _ c e)
-  move_steps RefutationEnd c e = let w = (when_ok (ends own) (Ok ended) (OfRefutation NotRefuted) (made c) e).1 in let z : ◌≡◌ {A = ℕ} 0 1 = cc in absurd (omega arith)
+  move_steps RefutationEnd c e = absurd (end_makes_none RefutationEnd refl c e)
   move_steps (Claim k n) c e = absurd (err_ok e)
   move_steps (Literal l) c e = absurd (err_ok e)
   move_steps ClauseEnd c e = absurd (err_ok e)
@@ -101,7 +105,7 @@ module _ (list : List (List ℕ)) (room : Room) (own : List (List ℕ)) where
       ap making (takes_done list n (room.literals_below + entries own) room.literals (room.spans_below + length own) room.spans h
       (and_from _ _ a (lt-ltb (room.spans_below + length own) room.spans f.place)) f.literals)
   steps_move a (resolved {left = l} {right = r} {pivot = p} h k x y) f =
-      ap making (resolves_done own l r p (room.literals_below + entries own) room.literals (room.spans_below + length own) room.spans h k x y
+      ap making (resolves_done own l r p (room.literals_below + entries own) room.literals (room.spans_below + length own) room.spans h k (and_from _ _ x y)
       (and_from _ _ a (lt-ltb (room.spans_below + length own) room.spans f.place)) (le-leb _ _ f.literals))
 
 -- there is a clause and the latest is empty exactly where an empty clause comes last

@@ -1,9 +1,9 @@
 // One refutation of a question, read from the records of a certificate.
 #![tactic(auto)]
 
-ghost use Rattle.std.specs.Prelude.{◌≡◌, ◌+◌, true, length, Ok, OnOk};
+ghost use Rattle.std.specs.Prelude.{◌≡◌, ◌+◌, ◌≤◌, true, length, IfOk, OnOk};
 ghost use Rattle.resolution.specs.States.{own, fresh, Standing};
-ghost use Rattle.refuting.specs.declared.Turn.TheVariants.{End};
+ghost use Rattle.certificate.specs.declared.record.Record.TheVariants.{RefutationEnd};
 ghost use Rattle.refuting.specs.Rooms.{room_above, room_of, Ready};
 ghost use Rattle.refuting.specs.Reading.{move};
 ghost use Rattle.refuting.specs.Moves.{Moved};
@@ -21,15 +21,6 @@ pub struct Below {
     pub spans: Stack,
 }
 
-// Where a record leaves a refutation.
-#[derive(Clone, Copy)]
-enum Turn {
-    // under way
-    Next,
-    // concluded
-    End,
-}
-
 // What a record asks of the refutation; any but its own three is out of place.
 fn apply<L: ClauseList>(
     refutation: &mut Refutation,
@@ -37,26 +28,23 @@ fn apply<L: ClauseList>(
     record: Record,
     literals: &mut [u32],
     spans: &mut [Span],
-) -> Result<Turn, CertificateFault>
+) -> Result<(), CertificateFault>
     ensures moved { Standing refutation.old literals.old spans.old → Moved (L.clauses list.now literals.old spans.old) refutation.old refutation.new literals.old literals.new spans.old spans.new (move (L.clauses list.now literals.old spans.old) (room_of refutation.old literals.old spans.old) (own refutation.old literals.old spans.old) «record») result }
-    ensures spent { result ≡ Ok End → refutation.new.spent ≡ true }
+    ensures spent { «record» ≡ RefutationEnd → OnOk result (refutation.new.spent ≡ true) }
 {
     match record {
         Record::Take(number) => {
             refutation.take(list, number as usize, literals, spans)?;
-            Ok(Turn::Next)
         }
         Record::Resolve { left, right, pivot } => {
             refutation.resolve(left as usize, right as usize, pivot, literals, spans)?;
-            Ok(Turn::Next)
         }
         Record::RefutationEnd => {
-            let refuted = refutation.conclude(literals, spans)?;
-            refuted.spend();
-            Ok(Turn::End)
+            refutation.conclude(literals, spans)?.spend();
         }
-        _ => Err(CertificateFault::OutOfPlace),
+        _ => return Err(CertificateFault::OutOfPlace),
     }
+    Ok(())
 }
 
 // Reads the records of a refutation up to its end; answers how many it had.
@@ -72,31 +60,19 @@ fn run<L: ClauseList>(
     ensures checked { Ready (L.literal_mark list.now) (L.span_mark list.now) (room_of refutation.old literals.old spans.old) → Checked (L.clauses list.now literals.old spans.old) (room_of refutation.old literals.old spans.old) question cursor.old.offset cursor.old.rest.now cursor.new.rest.now literals.old literals.new spans.old spans.new result }
     ensures offset { cursor.new.offset + length cursor.new.rest.now ≡ cursor.old.offset + length cursor.old.rest.now }
     ensures spent { OnOk result (refutation.new.spent ≡ true) }
+    ensures counted { IfOk result (λ records. records + cursor.old.offset ≤ cursor.new.offset) }
 {
     let mut records = 0;
     loop {
         let offset = cursor.offset();
-        let Some(record) = cursor.next() else {
-            return Err(CertificateRefusal {
-                fault: CertificateFault::NoRecord,
-                offset,
-                question,
-            });
-        };
-        let turn = match apply(refutation, list, record, literals, spans) {
-            Ok(turn) => turn,
-            Err(fault) => {
-                return Err(CertificateRefusal {
-                    fault,
-                    offset,
-                    question,
-                });
-            }
-        };
+        let record = cursor
+            .next()
+            .ok_or(CertificateFault::NoRecord.at(offset, question))?;
+        let applied = apply(refutation, list, record, literals, spans);
+        applied.map_err(|fault| fault.at(offset, question))?;
         records += 1;
-        match turn {
-            Turn::Next => {}
-            Turn::End => return Ok(records),
+        if record == Record::RefutationEnd {
+            return Ok(records);
         }
     }
 }
@@ -113,6 +89,7 @@ pub fn refute_from<L: ClauseList>(
     ensures checked { Ready (L.literal_mark list.now) (L.span_mark list.now) (room_above below literals.old spans.old) → Checked (L.clauses list.now literals.old spans.old) (room_above below literals.old spans.old) question cursor.old.offset cursor.old.rest.now cursor.new.rest.now literals.old literals.new spans.old spans.new result }
     ensures offset { cursor.new.offset + length cursor.new.rest.now ≡ cursor.old.offset + length cursor.old.rest.now }
     ensures lengths { (length literals.new ≡ length literals.old) × (length spans.new ≡ length spans.old) }
+    ensures counted { IfOk result (λ records. records + cursor.old.offset ≤ cursor.new.offset) }
 {
     let mut refutation = Refutation::above(below.literals, below.spans);
     let outcome = run(&mut refutation, list, cursor, question, literals, spans);

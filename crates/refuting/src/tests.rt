@@ -24,25 +24,14 @@ fn answer(bytes: &[u8], literals: &mut [u32]) -> (Result<usize, CertificateRefus
     let Some(table) = ClauseTable::new(&clauses, &places) else {
         return (Ok(0), 0);
     };
-    let mut spans = [Span {
-        start: 0,
-        length: 0,
-    }; 3];
+    let mut spans = [Span::default(); 3];
     let below = Below {
         literals: Stack { used: 1 },
-        spans: Stack { used: 0 },
+        spans: Stack::default(),
     };
     let mut cursor = Cursor::new(bytes);
     let result = refute_from(&table, &mut cursor, 3, below, literals, &mut spans);
     (result, cursor.offset())
-}
-
-fn refused(fault: CertificateFault, offset: usize) -> Result<usize, CertificateRefusal> {
-    Err(CertificateRefusal {
-        fault,
-        offset,
-        question: 3,
-    })
 }
 
 #[test]
@@ -58,19 +47,19 @@ fn refuted(rt: HostRuntime) {
 fn not_refuted(rt: HostRuntime) {
     let mut literals = [9u32, 0, 0];
     let (cut, taken) = answer(&BYTES[..10], &mut literals);
-    assert_eq!(rt; cut, refused(CertificateFault::NoRecord, 10));
+    assert_eq!(rt; cut, Err(CertificateFault::NoRecord.at(10, 3)));
     assert_eq!(rt; taken, 10);
     let (misplaced, taken) = answer(&[5, 0, 0, 0, 0, 10], &mut literals);
-    assert_eq!(rt; misplaced, refused(CertificateFault::OutOfPlace, 5));
+    assert_eq!(rt; misplaced, Err(CertificateFault::OutOfPlace.at(5, 3)));
     assert_eq!(rt; taken, 6);
     let (early, _) = answer(&[5, 0, 0, 0, 0, 7], &mut literals);
     assert_eq!(rt;
         early,
-        refused(CertificateFault::Refutation(RefutationFault::NotRefuted), 5)
+        Err(CertificateFault::Refutation(RefutationFault::NotRefuted).at(5, 3))
     );
     let (short, _) = answer(&BYTES, &mut [9, 0]);
     assert_eq!(rt;
         short,
-        refused(CertificateFault::Refutation(RefutationFault::Full), 5)
+        Err(CertificateFault::Refutation(RefutationFault::Full).at(5, 3))
     );
 }

@@ -1,6 +1,7 @@
 -- Why resolution is sound.
 use Rattle.std.proofs.Common.{◌≡◌, ℕ, zero, suc, ◌<◌, Bool, true, false, cond, not, ◌&&◌, ◌||◌, eqb, ltb, List, [], ◌∷◌, length, get_or, sym, refl, ap, ◌∙◌, ⊎_elim, arith}
 use mathlib.Core.Bool.{or_assoc}
+use Rattle.std.specs.List.{list_any}
 use Rattle.std.proofs.lemmas.Bool.{ltb-false, eqb-true, eq-eqb, ne_eqb, cond_both, cases_Bool, cases_eq, false≢true, or_left, or_right, and_parts}
 use Rattle.resolution.specs.Clauses.{literal_true, denial, holds, models, Unsat}
 use Rattle.resolution.specs.Resolvents.{merge_with, merge, without, resolvent, contains}
@@ -22,47 +23,38 @@ or_same : (a c d : Bool) → (a || (c || d)) ≡ (a || (c || (a || d)))
 or_same true c d = refl
 or_same false c d = refl
 
--- whether a test holds of some literal
-any : (ℕ → Bool) → List ℕ → Bool
-any f [] = false
-any f (x ∷ xs) = f x || any f xs
-
--- it does of a merge exactly where it does of either list
-any_merge_with : (f : ℕ → Bool) (x : ℕ) (k : List ℕ → List ℕ) (h : Bool) → ((zs : List ℕ) → any f (k zs) ≡ (h || any f zs)) → (ys : List ℕ) → any f (merge_with x k ys) ≡ (f x || (h || any f ys))
-unfolding any
+-- a test holds of some literal of a merge exactly where it does of one of either list
+any_merge_with : (f : ℕ → Bool) (x : ℕ) (k : List ℕ → List ℕ) (h : Bool) → ((zs : List ℕ) → list_any f (k zs) ≡ (h || list_any f zs)) → (ys : List ℕ) → list_any f (merge_with x k ys) ≡ (f x || (h || list_any f ys))
 any_merge_with f x k h hk [] = ap (λ b. f x || b) (hk [])
 any_merge_with f x k h hk (y ∷ ys) =
-    cond_both (ltb x y) (x ∷ k (y ∷ ys)) (cond (ltb y x) (y ∷ merge_with x k ys) (x ∷ k ys)) (λ l. any f l ≡ (f x || (h || (f y || any f ys))))
+    cond_both (ltb x y) (x ∷ k (y ∷ ys)) (cond (ltb y x) (y ∷ merge_with x k ys) (x ∷ k ys)) (λ l. list_any f l ≡ (f x || (h || (f y || list_any f ys))))
     (λ _. ap (λ b. f x || b) (hk (y ∷ ys)))
-    (λ e. cond_both (ltb y x) (y ∷ merge_with x k ys) (x ∷ k ys) (λ l. any f l ≡ (f x || (h || (f y || any f ys))))
-    (λ _. ap (λ b. f y || b) (any_merge_with f x k h hk ys) ∙ or_move (f x) (f y) h (any f ys))
+    (λ e. cond_both (ltb y x) (y ∷ merge_with x k ys) (x ∷ k ys) (λ l. list_any f l ≡ (f x || (h || (f y || list_any f ys))))
+    (λ _. ap (λ b. f y || b) (any_merge_with f x k h hk ys) ∙ or_move (f x) (f y) h (list_any f ys))
     (λ d. let s : x ≡ y = omega (arith, ltb-false x y e, ltb-false y x d) in
-    ap (λ b. f x || b) (hk ys) ∙ or_same (f x) h (any f ys) ∙ ap (λ z. f x || (h || (f z || any f ys))) s))
+    ap (λ b. f x || b) (hk ys) ∙ or_same (f x) h (list_any f ys) ∙ ap (λ z. f x || (h || (f z || list_any f ys))) s))
 
-any_merge : (f : ℕ → Bool) (xs ys : List ℕ) → any f (merge xs ys) ≡ (any f xs || any f ys)
-unfolding any
+any_merge : (f : ℕ → Bool) (xs ys : List ℕ) → list_any f (merge xs ys) ≡ (list_any f xs || list_any f ys)
 any_merge f [] ys = refl
-any_merge f (x ∷ xs) ys = any_merge_with f x (merge xs) (any f xs) (any_merge f xs) ys ∙ sym (or_assoc (f x) (any f xs) (any f ys))
+any_merge f (x ∷ xs) ys = any_merge_with f x (merge xs) (list_any f xs) (any_merge f xs) ys ∙ sym (or_assoc (f x) (list_any f xs) (list_any f ys))
 
-any_holds : (v : ℕ → Bool) (xs : List ℕ) → any (literal_true v) xs ≡ holds v xs
-unfolding any
+any_holds : (v : ℕ → Bool) (xs : List ℕ) → list_any (literal_true v) xs ≡ holds v xs
 any_holds v [] = refl
 any_holds v (x ∷ xs) = ap (λ b. literal_true v x || b) (any_holds v xs)
 
-any_contains : (x : ℕ) (xs : List ℕ) → any (λ y. eqb y x) xs ≡ contains x xs
-unfolding any
+pub any_contains : (x : ℕ) (xs : List ℕ) → list_any (λ y. eqb y x) xs ≡ contains x xs
 any_contains x [] = refl
 any_contains x (y ∷ ys) = ap (λ b. eqb y x || b) (any_contains x ys)
 
 holds_merge : (v : ℕ → Bool) (xs ys : List ℕ) → holds v (merge xs ys) ≡ (holds v xs || holds v ys)
 holds_merge v xs ys =
     sym (any_holds v (merge xs ys)) ∙ any_merge (literal_true v) xs ys
-    ∙ ap (λ b. b || any (literal_true v) ys) (any_holds v xs) ∙ ap (λ b. holds v xs || b) (any_holds v ys)
+    ∙ ap (λ b. b || list_any (literal_true v) ys) (any_holds v xs) ∙ ap (λ b. holds v xs || b) (any_holds v ys)
 
 contains_merge : (x : ℕ) (xs ys : List ℕ) → contains x (merge xs ys) ≡ (contains x xs || contains x ys)
 contains_merge x xs ys =
     sym (any_contains x (merge xs ys)) ∙ any_merge (λ y. eqb y x) xs ys
-    ∙ ap (λ b. b || any (λ y. eqb y x) ys) (any_contains x xs) ∙ ap (λ b. contains x xs || b) (any_contains x ys)
+    ∙ ap (λ b. b || list_any (λ y. eqb y x) ys) (any_contains x xs) ∙ ap (λ b. contains x xs || b) (any_contains x ys)
 
 holds_without : (v : ℕ → Bool) (p : ℕ) (xs : List ℕ) → literal_true v p ≡ false → holds v (without p xs) ≡ holds v xs
 holds_without v p [] f = refl

@@ -1,5 +1,6 @@
 -- Parts of an area, and a merge that goes through two of them.
-use Rattle.std.proofs.Common.{◌≡◌, ℕ, suc, ◌+◌, ◌-◌, ◌<◌, ◌≤◌, min, cond, eqb, ltb, List, [], ◌∷◌, ◌++◌, length, get_or, take, drop, set, sym, ap, ◌∙◌, ⊎_elim, arith}
+use Rattle.std.proofs.Common.{◌≡◌, ℕ, suc, ◌+◌, ◌-◌, ◌<◌, ◌≤◌, min, not, cond, eqb, ltb, List, [], ◌∷◌, ◌++◌, length, get_or, take, drop, set, option_to_list, sym, refl, ap, ◌∙◌, ⊎_elim, arith}
+use Rattle.std.specs.Bool.{then_some}
 use Rattle.std.proofs.lemmas.Bool.{eq-eqb, ne_eqb, cond-true, cond-false, cond_both, cases_eq, lt-ltb, le-ltb}
 use Rattle.std.proofs.lemmas.List.{take_more_set, take-take, drop-take, drop_more, drop-drop, drop-set-add, drop-set-lt, set-get_or, length-drop, length-take, append_assoc, append-nil, take-append-drop, length-append, take-set-le}
 use Rattle.stack.specs.Pushes.{placed}
@@ -105,6 +106,40 @@ module _ (ls : List ℕ) (p q i e j f : ℕ) where
         ∙ ap (merge (get_or ls i 0 ∷ without p (part ls (i + 1) e))) (keep ls q j f m n t)
         ∙ merge_eq (get_or ls i 0) (get_or ls j 0) (without p (part ls (i + 1) e)) (without q (part ls (j + 1) f)) o u
 
+-- one step of a merge: of the one clause that has a literal left
+module _ (ls : List ℕ) (p q i e j f : ℕ) where
+  pub rest_one_left : i < e → e ≤ length ls → f ≤ j → rest ls p q i e j f ≡ option_to_list (then_some (not (eqb (get_or ls i 0) p)) (get_or ls i 0)) ++ rest ls p q (i + 1) e j f
+  rest_one_left h k m =
+      ⊎_elim
+      (λ (s : get_or ls i 0 ≡ p). let t = eq-eqb _ _ s in rw t (rest_skip_left ls p q i e j f h k s))
+      (λ (s : get_or ls i 0 ≡ p → ⊥). let t = ne_eqb _ _ s in rw t (rest_left ls p q i e j f h k s m))
+      (cases_eq (get_or ls i 0) p)
+
+  pub rest_one_right : e ≤ i → j < f → f ≤ length ls → rest ls p q i e j f ≡ option_to_list (then_some (not (eqb (get_or ls j 0) q)) (get_or ls j 0)) ++ rest ls p q i e (j + 1) f
+  rest_one_right m h k =
+      ⊎_elim
+      (λ (s : get_or ls j 0 ≡ q). let t = eq-eqb _ _ s in rw t (rest_skip_right ls p q i e j f h k s))
+      (λ (s : get_or ls j 0 ≡ q → ⊥). let t = ne_eqb _ _ s in rw t (rest_right ls p q i e j f m h k s))
+      (cases_eq (get_or ls j 0) q)
+
+  -- of both
+  rest_on : (l r k v i' j' : ℕ) (o : List ℕ) → i + l ≡ i' → j + r ≡ j' → option_to_list (then_some (eqb k 1) v) ≡ o → rest ls p q i e j f ≡ o ++ rest ls p q i' e j' f → rest ls p q i e j f ≡ option_to_list (then_some (eqb k 1) v) ++ rest ls p q (i + l) e (j + r) f
+  rest_on l r k v i' j' o x y z t = rw (x, y, z) t
+
+  kept_none : (k v : ℕ) → k ≡ 0 → option_to_list (then_some (eqb k 1) v) ≡ []
+  kept_none k v h = rw h refl
+
+  kept_one : (k v w : ℕ) → k ≡ 1 → v ≡ w → option_to_list (then_some (eqb k 1) v) ≡ w ∷ []
+  kept_one k v w h x = rw (h, x) refl
+
+  pub rest_pace : i < e → e ≤ length ls → j < f → f ≤ length ls → (l r k : ℕ) → Moves (get_or ls i 0) (get_or ls j 0) p q l r k
+      → rest ls p q i e j f ≡ option_to_list (then_some (eqb k 1) (min (get_or ls i 0) (get_or ls j 0))) ++ rest ls p q (i + l) e (j + r) f
+  rest_pace h m n o l r k (skip_left x a b c) = rest_on l r k _ (i + 1) j _ (omega arith) (omega arith) (kept_none k _ c) (rest_skip_left ls p q i e j f h m x)
+  rest_pace h m n o l r k (skip_right y a b c) = rest_on l r k _ i (j + 1) _ (omega arith) (omega arith) (kept_none k _ c) (rest_skip_right ls p q i e j f n o y)
+  rest_pace h m n o l r k (keep_left x y z a b c) = rest_on l r k _ (i + 1) j _ (omega arith) (omega arith) (kept_one k _ (get_or ls i 0) c (omega arith)) (rest_lt ls p q i e j f h m x n o y z)
+  rest_pace h m n o l r k (keep_right x y z a b c) = rest_on l r k _ i (j + 1) _ (omega arith) (omega arith) (kept_one k _ (get_or ls j 0) c (omega arith)) (rest_gt ls p q i e j f h m x n o y z)
+  rest_pace h m n o l r k (keep_both x y z w a b c) = rest_on l r k _ (i + 1) (j + 1) _ (omega arith) (omega arith) (kept_one k _ (get_or ls i 0) c (omega arith)) (rest_eq ls p q i e j f h m x n o y z w)
+
 pub rest_kept : (n : ℕ) (ls ms : List ℕ) (p q i e j f : ℕ) → i ≤ e → e ≤ n → j ≤ f → f ≤ n → take n ms ≡ take n ls → rest ms p q i e j f ≡ rest ls p q i e j f
 unfolding rest
 rest_kept n ls ms p q i e j f h k l m t =
@@ -147,6 +182,14 @@ take_part ls i e h =
 part_set : (ms : List ℕ) (n at v : ℕ) → n ≤ at → part (set ms at v) n at ≡ part ms n at
 part_set ms n at v h = part_kept at ms (set ms at v) n at h (omega arith) (take-set-le at ms at v (omega arith))
 
+-- a move reads and keeps at most one
+pub moved : (x y p q l r k : ℕ) → Moves x y p q l r k → (l ≤ 1) × (r ≤ 1) × (k ≤ 1) × (1 ≤ l + r)
+moved x y p q l r k (skip_left _ a b c) = (omega arith, omega arith, omega arith, omega arith)
+moved x y p q l r k (skip_right _ a b c) = (omega arith, omega arith, omega arith, omega arith)
+moved x y p q l r k (keep_left _ _ _ a b c) = (omega arith, omega arith, omega arith, omega arith)
+moved x y p q l r k (keep_right _ _ _ a b c) = (omega arith, omega arith, omega arith, omega arith)
+moved x y p q l r k (keep_both _ _ _ _ a b c) = (omega arith, omega arith, omega arith, omega arith)
+
 -- a turn of the quick loop
 module _ (n : ℕ) (ls ms : List ℕ) (p q i e j f at : ℕ) (whole : List ℕ)
     (hi : i < e) (he : e ≤ n) (hj : j < f) (hf : f ≤ n) (hn : n ≤ at) (ha : at < length ms)
@@ -159,48 +202,15 @@ module _ (n : ℕ) (ls ms : List ℕ) (p q i e j f at : ℕ) (whole : List ℕ)
   turn_one : (v i' j' : ℕ) → i ≤ i' → i' ≤ e → j ≤ j' → j' ≤ f → rest ms p q i e j f ≡ v ∷ rest ms p q i' e j' f → part (set ms at v) n (at + 1) ++ rest ls p q i' e j' f ≡ whole
   turn_one v i' j' a b c d s = turn_keep n ls ms p q i e j f i' j' at whole b he d hf a c front inv v hn ha s
 
-  -- at places that are equal
-  at_places : (v a i₂ j₂ a' i' j' : ℕ) → a ≡ a' → i₂ ≡ i' → j₂ ≡ j' → part (set ms at v) n a' ++ rest ls p q i' e j' f ≡ whole → part (set ms at v) n a ++ rest ls p q i₂ e j₂ f ≡ whole
-  at_places v a i₂ j₂ a' i' j' x y z h =
-      ap (λ k. part (set ms at v) n k ++ rest ls p q i₂ e j₂ f) x
-      ∙ ap (λ k. part (set ms at v) n a' ++ rest ls p q k e j₂ f) y
-      ∙ ap (λ k. part (set ms at v) n a' ++ rest ls p q i' e k f) z
-      ∙ h
-
-  as_value : (v w i' j' : ℕ) → v ≡ w → part (set ms at w) n (at + 1) ++ rest ls p q i' e j' f ≡ whole → part (set ms at v) n (at + 1) ++ rest ls p q i' e j' f ≡ whole
-  as_value v w i' j' x h = ap (λ z. part (set ms at z) n (at + 1) ++ rest ls p q i' e j' f) x ∙ h
-
-  module _ (le : e ≤ length ms) (lf : f ≤ length ms) where
-    pub turn_quick : (l r k v : ℕ) → Moves (get_or ms i 0) (get_or ms j 0) p q l r k → (k ≡ 1 → v ≡ min (get_or ms i 0) (get_or ms j 0)) → part (set ms at v) n (at + k) ++ rest ls p q (i + l) e (j + r) f ≡ whole
-    turn_quick l r k v (skip_left x a b c) t =
-        at_places v (at + k) (i + l) (j + r) at (i + 1) j (omega arith) (omega arith) (omega arith)
-        (turn_none v (i + 1) j (omega arith) (omega arith) (omega arith) (omega arith) (rest_skip_left ms p q i e j f hi le x))
-    turn_quick l r k v (skip_right y a b c) t =
-        at_places v (at + k) (i + l) (j + r) at i (j + 1) (omega arith) (omega arith) (omega arith)
-        (turn_none v i (j + 1) (omega arith) (omega arith) (omega arith) (omega arith) (rest_skip_right ms p q i e j f hj lf y))
-    turn_quick l r k v (keep_left x y o a b c) t =
-        let u = t c in
-        at_places v (at + k) (i + l) (j + r) (at + 1) (i + 1) j (omega arith) (omega arith) (omega arith)
-        (as_value v (get_or ms i 0) (i + 1) j (omega arith)
-        (turn_one (get_or ms i 0) (i + 1) j (omega arith) (omega arith) (omega arith) (omega arith) (rest_lt ms p q i e j f hi le x hj lf y o)))
-    turn_quick l r k v (keep_right x y o a b c) t =
-        let u = t c in
-        at_places v (at + k) (i + l) (j + r) (at + 1) i (j + 1) (omega arith) (omega arith) (omega arith)
-        (as_value v (get_or ms j 0) i (j + 1) (omega arith)
-        (turn_one (get_or ms j 0) i (j + 1) (omega arith) (omega arith) (omega arith) (omega arith) (rest_gt ms p q i e j f hi le x hj lf y o)))
-    turn_quick l r k v (keep_both x y o o' a b c) t =
-        let u = t c in
-        at_places v (at + k) (i + l) (j + r) (at + 1) (i + 1) (j + 1) (omega arith) (omega arith) (omega arith)
-        (as_value v (get_or ms i 0) (i + 1) (j + 1) (omega arith)
-        (turn_one (get_or ms i 0) (i + 1) (j + 1) (omega arith) (omega arith) (omega arith) (omega arith) (rest_eq ms p q i e j f hi le x hj lf y o o')))
-
--- a move reads and keeps at most one
-pub moved : (x y p q l r k : ℕ) → Moves x y p q l r k → (l ≤ 1) × (r ≤ 1) × (k ≤ 1) × (1 ≤ l + r)
-moved x y p q l r k (skip_left _ a b c) = (omega arith, omega arith, omega arith, omega arith)
-moved x y p q l r k (skip_right _ a b c) = (omega arith, omega arith, omega arith, omega arith)
-moved x y p q l r k (keep_left _ _ _ a b c) = (omega arith, omega arith, omega arith, omega arith)
-moved x y p q l r k (keep_right _ _ _ a b c) = (omega arith, omega arith, omega arith, omega arith)
-moved x y p q l r k (keep_both _ _ _ _ a b c) = (omega arith, omega arith, omega arith, omega arith)
+  pub turn_quick : e ≤ length ms → f ≤ length ms → (l r k v : ℕ) → Moves (get_or ms i 0) (get_or ms j 0) p q l r k → (k ≡ 1 → v ≡ min (get_or ms i 0) (get_or ms j 0)) → part (set ms at v) n (at + k) ++ rest ls p q (i + l) e (j + r) f ≡ whole
+  turn_quick le lf l r k v m t =
+      let b = moved _ _ _ _ _ _ _ m in
+      let s = rest_pace ms p q i e j f hi le hj lf l r k m in
+      ⊎_elim
+      (λ (z : k ≡ 0). let a : at + k ≡ at = omega arith in rw a (turn_none v (i + l) (j + r) (omega arith) (omega arith) (omega arith) (omega arith) (rw z at s)))
+      (λ (z : k ≡ 0 → ⊥). let u : k ≡ 1 = omega arith in let a : at + k ≡ at + 1 = omega arith in
+      rw a (turn_one v (i + l) (j + r) (omega arith) (omega arith) (omega arith) (omega arith) ((rw u at s) ∙ ap (λ w. w ∷ rest ms p q (i + l) e (j + r) f) (sym (t u)))))
+      (cases_eq k 0)
 
 -- the entries past a write stay
 pub tail_more : (ls ms : List ℕ) (at v : ℕ) → drop at ms ≡ drop at ls → drop (at + 1) (set ms at v) ≡ drop (at + 1) ls

@@ -1,63 +1,31 @@
 -- Strictly rising clauses: by a test, and as resolvents.
-use Rattle.std.proofs.Common.{◌≡◌, ℕ, ◌+◌, ◌-◌, ◌<◌, ◌≤◌, Bool, true, false, cond, ◌&&◌, eqb, ltb, List, [], ◌∷◌, length, get_or, drop, sym, refl, ap, ◌∙◌, subst, ⊎_elim, arith}
-use Rattle.std.specs.List.{AllByRecursion}
+use Rattle.std.proofs.Common.{◌≡◌, ℕ, zero, suc, ◌<◌, ◌≤◌, Bool, true, false, cond, eqb, ltb, List, [], ◌∷◌, length, get_or, sym, ◌∙◌, add-one, arith}
+use Rattle.std.specs.List.{AllByRecursion, IsAllAdjacentAnswer}
 use Rattle.std.proofs.ByRecursion.{All-weaker}
-use Rattle.std.proofs.lemmas.List.{drop_more, drop_all}
-use Rattle.std.proofs.lemmas.Bool.{lt-ltb, ltb-true, ltb-false, cases_lt, cond_both, and_parts, and_from, false≢true}
+use Rattle.std.proofs.lemmas.Bool.{lt-ltb, ltb-true, ltb-false, cond_both, false≢true}
 use Rattle.resolution.specs.Clauses.{Rising, denial}
+use Rattle.resolution.specs.Lists.{Tells}
 use Rattle.resolution.specs.Resolvents.{merge_with, merge, without, resolvent}
 
-abbrev pub is_rising_from : ℕ → List ℕ → Bool
-is_rising_from x [] = true
-is_rising_from x (y ∷ ys) = ltb x y && is_rising_from y ys
+-- in a rising clause each literal is below the next, and in no other
+pub rising_by_steps : (xs : List ℕ) → ((k : ℕ) → suc k < length xs → get_or xs k 0 < get_or xs (suc k) 0) → Rising xs
+rising_by_steps [] h = tt
+rising_by_steps (x ∷ []) h = (tt, tt)
+rising_by_steps (x ∷ y ∷ ys) h =
+    let l : x < y = h 0 (omega arith) in
+    let r = rising_by_steps (y ∷ ys) (λ k m. h (suc k) (omega arith)) in
+    ((l, All-weaker (λ z. y < z) (λ z. x < z) (λ z m. omega arith) ys r.0), r)
 
-abbrev pub rises : List ℕ → Bool
-rises [] = true
-rises (x ∷ xs) = is_rising_from x xs
+step_of_rising : (xs : List ℕ) (k : ℕ) → Rising xs → suc k < length xs → get_or xs k 0 < get_or xs (suc k) 0
+step_of_rising [] k r h = absurd (omega arith)
+step_of_rising (x ∷ []) k r h = absurd (omega arith)
+step_of_rising (x ∷ y ∷ ys) zero r h = r.0.0
+step_of_rising (x ∷ y ∷ ys) (suc k) r h = step_of_rising (y ∷ ys) k r.1 (omega arith)
 
-rising_from : (x : ℕ) (xs : List ℕ) → is_rising_from x xs ≡ true → Rising (x ∷ xs)
-rising_from x [] h = (tt, tt)
-rising_from x (y ∷ ys) h =
-    let p = and_parts (ltb x y) (is_rising_from y ys) h in
-    let r = rising_from y ys p.1 in
-    let l = ltb-true x y p.0 in
-    ((l, All-weaker (λ z. y < z) (λ z. x < z) (λ z k. omega arith) ys r.0), r)
-
-pub rises_yes : (xs : List ℕ) → rises xs ≡ true → Rising xs
-rises_yes [] h = tt
-rises_yes (x ∷ xs) h = rising_from x xs h
-
-from_rising : (x : ℕ) (xs : List ℕ) → Rising (x ∷ xs) → is_rising_from x xs ≡ true
-from_rising x [] h = refl
-from_rising x (y ∷ ys) h = and_from (ltb x y) (is_rising_from y ys) (lt-ltb x y h.0.0) (from_rising y ys h.1)
-
-is_rising : (xs : List ℕ) → Rising xs → rises xs ≡ true
-is_rising [] h = refl
-is_rising (x ∷ xs) h = from_rising x xs h
-
-pub rises_no : (xs : List ℕ) → rises xs ≡ false → Rising xs → ⊥
-rises_no xs h r = false≢true (sym h ∙ is_rising xs r)
-
-at : (xs : List ℕ) (k : ℕ) → k < length xs → rises (drop k xs) ≡ is_rising_from (get_or xs k 0) (drop (k + 1) xs)
-at xs k h = ap rises (drop_more xs k 0 h)
-
-step : (xs : List ℕ) (k : ℕ) → k + 1 < length xs → rises (drop k xs) ≡ (ltb (get_or xs k 0) (get_or xs (k + 1) 0) && rises (drop (k + 1) xs))
-step xs k h =
-    at xs k (omega arith) ∙ ap (is_rising_from (get_or xs k 0)) (drop_more xs (k + 1) 0 h)
-    ∙ ap (λ b. ltb (get_or xs k 0) (get_or xs (k + 1) 0) && b) (sym (at xs (k + 1) h))
-
--- at most one literal is left
-pub rises_last : (xs : List ℕ) (k : ℕ) → length xs ≤ k + 1 → rises (drop k xs) ≡ true
-rises_last xs k h =
-    ⊎_elim
-    (λ l. at xs k l ∙ ap (is_rising_from (get_or xs k 0)) (drop_all (k + 1) xs h))
-    (λ g. ap rises (drop_all k xs g))
-    (cases_lt k (length xs))
-
-pub rises_turn : (xs : List ℕ) (i : ℕ) → 1 ≤ i → i < length xs → rises (drop (i - 1) xs) ≡ (ltb (get_or xs (i - 1) 0) (get_or xs i 0) && rises (drop i xs))
-rises_turn xs i h k =
-    let e : i - 1 + 1 ≡ i = omega arith in
-    subst (λ n. rises (drop (i - 1) xs) ≡ (ltb (get_or xs (i - 1) 0) (get_or xs n 0) && rises (drop n xs))) e (step xs (i - 1) (omega arith))
+pub tells_rising : (xs : List ℕ) (b : Bool) → IsAllAdjacentAnswer (λ x y r. r ≡ ltb x y) xs b → Tells b (Rising xs)
+tells_rising xs true h = rising_by_steps xs (λ k l. ltb-true _ _ (sym (rw add-one at (h k 0 (omega arith)))))
+tells_rising xs false h =
+    λ r. false≢true (rw add-one at (h.2 0) ∙ lt-ltb _ _ (step_of_rising xs h.0 r (omega arith)))
 
 all_without : (P : ℕ → Type 0) (p : ℕ) (xs : List ℕ) → AllByRecursion P xs → AllByRecursion P (without p xs)
 all_without P p [] h = tt

@@ -72,15 +72,12 @@ module _ (ds : List (List ℕ)) (i j p used literals made spans : ℕ) where
     unfolding resolves
     resolves_in = cond-true (ltb i (length ds) && ltb j (length ds)) _ _ (and_from _ _ (lt-ltb i (length ds) h) (lt-ltb j (length ds) k))
 
-    pub resolves_no_left : contains p (numbered_clause ds i) ≡ false → resolves ds i j p used literals made spans ≡ Err NoPivot
-    resolves_no_left x = resolves_in ∙ cond-false (contains p (numbered_clause ds i) && contains (denial p) (numbered_clause ds j)) _ _ (and_left _ _ x)
+    pub resolves_no_pivot : (contains p (numbered_clause ds i) && contains (denial p) (numbered_clause ds j)) ≡ false → resolves ds i j p used literals made spans ≡ Err NoPivot
+    resolves_no_pivot x = resolves_in ∙ cond-false (contains p (numbered_clause ds i) && contains (denial p) (numbered_clause ds j)) _ _ x
 
-    pub resolves_no_right : contains (denial p) (numbered_clause ds j) ≡ false → resolves ds i j p used literals made spans ≡ Err NoPivot
-    resolves_no_right x = resolves_in ∙ cond-false (contains p (numbered_clause ds i) && contains (denial p) (numbered_clause ds j)) _ _ (and_right _ _ x)
-
-    module _ (x : contains p (numbered_clause ds i) ≡ true) (y : contains (denial p) (numbered_clause ds j) ≡ true) where
+    module _ (x : (contains p (numbered_clause ds i) && contains (denial p) (numbered_clause ds j)) ≡ true) where
       resolves_is : resolves ds i j p used literals made spans ≡ fits (resolvent (numbered_clause ds i) (numbered_clause ds j) p) used literals made spans
-      resolves_is = resolves_in ∙ cond-true (contains p (numbered_clause ds i) && contains (denial p) (numbered_clause ds j)) _ _ (and_from _ _ x y)
+      resolves_is = resolves_in ∙ cond-true (contains p (numbered_clause ds i) && contains (denial p) (numbered_clause ds j)) _ _ x
 
       pub resolves_place : (admitted literals spans && ltb made spans) ≡ false → resolves ds i j p used literals made spans ≡ Err Full
       resolves_place z = resolves_is ∙ fits_place (resolvent (numbered_clause ds i) (numbered_clause ds j) p) used literals made spans z

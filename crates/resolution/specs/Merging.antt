@@ -1,11 +1,25 @@
 -- How far a merge has come.
-use Rattle.std.specs.Prelude.{◌≡◌, ℕ, ◌<◌, ◌≤◌, List, ◌≢◌}
+use Rattle.std.specs.Prelude.{◌≡◌, ℕ, ◌<◌, ◌≤◌, Bool, ◌&&◌, List, ◌≢◌}
 use Rattle.stack.specs.Runs.{part}
-use Rattle.resolution.specs.Resolvents.{merge, without}
+use Rattle.resolution.specs.Clauses.{denial}
+use Rattle.resolution.specs.declared.merging.Merge.{Merge}
+use Rattle.resolution.specs.Resolvents.{merge, without, contains}
+
+-- two clauses may be resolved: the left one has the pivot, the right one its denial
+abbrev pub clash : List ℕ → List ℕ → ℕ → Bool
+clash left right pivot = contains pivot left && contains (denial pivot) right
 
 -- what is still to be written of a resolvent, when the left clause is read up to i and the right one up to j
 unfoldable pub rest : List ℕ → ℕ → ℕ → ℕ → ℕ → ℕ → ℕ → List ℕ
 rest ls p q i e j f = merge (without p (part ls i e)) (without q (part ls j f))
+
+-- the same of one merge
+abbrev pub rest_at : Merge → List ℕ → ℕ → ℕ → List ℕ
+rest_at m ls i j = rest ls m.pivot m.against i m.left.end j m.right.end
+
+-- all that a merge writes
+abbrev pub merged : Merge → List ℕ → List ℕ
+merged m ls = rest_at m ls m.left.start m.right.start
 
 -- how a merge of x ∷ .. without p and y ∷ .. without q goes on: how many literals it reads of each, and how many it keeps
 pub data Moves (x y p q l r k : ℕ) : Type 0 where

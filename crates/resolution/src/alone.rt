@@ -24,7 +24,7 @@ impl Refutation {
         }
         clear(literals);
         clear(spans);
-        Ok(Refutation::above(Stack { used: 0 }, Stack { used: 0 }))
+        Ok(Refutation::above(Stack::default(), Stack::default()))
     }
 
     // Ends it, where it has a clause and the latest is empty; both areas are all zero then.

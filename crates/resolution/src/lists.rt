@@ -3,6 +3,7 @@ ghost use Rattle.std.specs.Prelude.{◌≡◌, ℕ, List, length, take};
 ghost use Rattle.stack.specs.declared.spans.Span.{Span as SpanOf};
 ghost use Rattle.resolution.specs.Lists.{CopiedAs};
 
+use refusal::RefutationFault;
 use stack::{Span, Stack};
 
 // A list of clauses, which may stand partly in the work areas; so each lookup is lent these.
@@ -22,6 +23,12 @@ pub trait ClauseList {
         ensures { result ≡ length (clauses self.now literals.now spans.now) };
 
     // Pushes one clause onto the stack of literals, whole, if there is such a clause and it fits.
-    fn copy(&self, number: usize, stack: &mut Stack, literals: &mut [u32], spans: &[Span]) -> bool
+    fn copy(
+        &self,
+        number: usize,
+        stack: &mut Stack,
+        literals: &mut [u32],
+        spans: &[Span],
+    ) -> Result<(), RefutationFault>
         ensures { CopiedAs (clauses self.now literals.old spans.now) number stack.old.used stack.new.used literals.old literals.new result };
 }

@@ -1,29 +1,42 @@
 // The resolvent of two clauses of one area, in one merge pass.
-ghost use Rattle.std.specs.Prelude.{◌≡◌, ℕ, ◌+◌, ◌-◌, ◌<◌, ◌≤◌, min, List, [], ◌∷◌, ◌++◌, length, MatchOption, nat_le};
+ghost use Rattle.std.specs.Prelude.{◌≡◌, ℕ, ◌+◌, ◌<◌, ◌≤◌, true, false, List, [], ◌∷◌, ◌++◌, length, MatchOption, nat_le, slice_index};
 ghost use Rattle.std.specs.Option.{option_to_list};
 ghost use Rattle.stack.specs.Pushes.{placed};
 ghost use Rattle.stack.specs.Runs.{part};
+ghost use Rattle.resolution.specs.Clauses.{denial};
 ghost use Rattle.resolution.specs.Resolvents.{contains};
-ghost use Rattle.resolution.specs.Merging.{rest, Moves, LeftOf, RightOf, KeptOf};
+ghost use Rattle.resolution.specs.Merging.{clash, rest_at, merged, Moves, LeftOf, RightOf, KeptOf};
 
+use super::deny;
 use stack::Bounds;
 
 // Whether a clause has a literal.
-pub(super) fn has(literals: &[u32], clause: Bounds, literal: u32) -> bool
+fn has(literals: &[u32], clause: Bounds, literal: u32) -> bool
     requires order { clause.start ≤ clause.end }
     requires within { clause.end ≤ length literals.now }
     ensures { result ≡ contains literal (part literals.now clause.start clause.end) }
 {
-    let Bounds { start, end } = clause;
-    for x in &literals[start..end] {
-        if *x == literal {
-            return true;
-        }
-    }
-    false
+    literals[clause.start..clause.end].contains(&literal)
 }
 
-// One step of a merge: the literal to keep, and where to read on.
+// The literal at a place, if that is before an end.
+fn literal_before(literals: &[u32], end: usize, place: usize) -> Option<u32>
+    requires { end ≤ length literals.now }
+    ensures { MatchOption result (end ≤ place) (λ x. (place < end) × (x ≡ slice_index literals.now place)) }
+{
+    literals[..end].get(place).copied()
+}
+
+// Two clauses that are resolved: the left one without the pivot, joined with the right one without its denial.
+#[derive(Clone, Copy)]
+pub(super) struct Merge {
+    left: Bounds,
+    right: Bounds,
+    pivot: u32,
+    against: u32,
+}
+
+// One step of a merge: the literal to keep, and where to read on. An iterator would hold the area, which is written between the steps.
 #[derive(Clone, Copy)]
 struct Next {
     keep: Option<u32>,
@@ -31,70 +44,12 @@ struct Next {
     j: usize,
 }
 
-fn step(ls: &[u32], i: usize, e: usize, j: usize, f: usize, p: u32, q: u32) -> Option<Next>
-    requires { (i ≤ e) × ((e ≤ length ls.now) × ((j ≤ f) × (f ≤ length ls.now))) }
-    ensures { MatchOption result (rest ls.now p q i e j f ≡ []) (λ n. (i ≤ n.i) × (n.i ≤ e) × (j ≤ n.j) × (n.j ≤ f) × (i + j < n.i + n.j) × (rest ls.now p q i e j f ≡ option_to_list n.keep ++ rest ls.now p q n.i e n.j f)) }
-{
-    if i < e {
-        let x = ls[i];
-        if x == p {
-            return Some(Next {
-                keep: None,
-                i: i + 1,
-                j,
-            });
-        }
-        if j < f {
-            let y = ls[j];
-            if y == q {
-                return Some(Next {
-                    keep: None,
-                    i,
-                    j: j + 1,
-                });
-            }
-            if x < y {
-                return Some(Next {
-                    keep: Some(x),
-                    i: i + 1,
-                    j,
-                });
-            }
-            if y < x {
-                return Some(Next {
-                    keep: Some(y),
-                    i,
-                    j: j + 1,
-                });
-            }
-            return Some(Next {
-                keep: Some(x),
-                i: i + 1,
-                j: j + 1,
-            });
-        }
-        return Some(Next {
-            keep: Some(x),
-            i: i + 1,
-            j,
-        });
+impl Next {
+    fn new(keep: Option<u32>, i: usize, j: usize) -> Next
+        ensures { result ≡ record { keep = keep; i = i; j = j } }
+    {
+        Next { keep, i, j }
     }
-    if j < f {
-        let y = ls[j];
-        if y == q {
-            return Some(Next {
-                keep: None,
-                i,
-                j: j + 1,
-            });
-        }
-        return Some(Next {
-            keep: Some(y),
-            i,
-            j: j + 1,
-        });
-    }
-    None
 }
 
 // How far a merge goes on at two literals: it reads `left` and `right` literals, and keeps `kept`.
@@ -105,40 +60,6 @@ struct Pace {
     kept: usize,
 }
 
-fn left_of(x: u32, y: u32, p: u32, q: u32) -> usize
-    ensures { LeftOf x y p q result }
-{
-    ((x == p) | ((y != q) & (x <= y))) as usize
-}
-
-fn kept_of(x: u32, y: u32, p: u32, q: u32) -> usize
-    ensures { KeptOf x y p q result }
-{
-    ((x != p) & (y != q)) as usize
-}
-
-fn right_of(x: u32, y: u32, p: u32, q: u32) -> usize
-    ensures { RightOf x y p q result }
-{
-    ((x != p) & ((y == q) | (y <= x))) as usize
-}
-
-// No branch: which of the two literals is smaller cannot be guessed.
-fn advance(x: u32, y: u32, p: u32, q: u32) -> Pace
-    ensures { Moves x y p q result.left result.right result.kept }
-{
-    let left = left_of(x, y, p, q);
-    let right = right_of(x, y, p, q);
-    let kept = kept_of(x, y, p, q);
-    Pace { left, right, kept }
-}
-
-fn smaller(x: u32, y: u32) -> u32
-    ensures { result ≡ min x y }
-{
-    if x < y { x } else { y }
-}
-
 // The new literal, or the old one where none is kept.
 fn chosen(kept: usize, new: u32, old: u32) -> u32
     ensures new { kept ≡ 1 → result ≡ new }
@@ -147,72 +68,137 @@ fn chosen(kept: usize, new: u32, old: u32) -> u32
     if kept == 1 { new } else { old }
 }
 
-// Whether the resolvent of a and b has at most so many literals, where p is the pivot and q its denial.
-fn at_most(literals: &[u32], a: Bounds, b: Bounds, p: u32, q: u32, most: usize) -> bool
-    requires left { (a.start ≤ a.end) × (a.end ≤ length literals.now) }
-    requires right { (b.start ≤ b.end) × (b.end ≤ length literals.now) }
-    ensures { result ≡ nat_le (length (rest literals.now p q a.start a.end b.start b.end)) most }
-{
-    let mut i = a.start;
-    let mut j = b.start;
-    let mut free = most;
-    while let Some(next) = step(literals, i, a.end, j, b.end, p, q) {
-        if let Some(_) = next.keep {
-            if free == 0 {
-                return false;
+impl Merge {
+    // The merge of two clauses, if the left one has the pivot, and the right one its denial.
+    pub(super) fn new(literals: &[u32], left: Bounds, right: Bounds, pivot: u32) -> Option<Merge>
+        requires left { (left.start ≤ left.end) × (left.end ≤ length literals.now) }
+        requires right { (right.start ≤ right.end) × (right.end ≤ length literals.now) }
+        ensures { MatchOption result (clash (part literals.now left.start left.end) (part literals.now right.start right.end) pivot ≡ false) (λ m. (clash (part literals.now left.start left.end) (part literals.now right.start right.end) pivot ≡ true) × (m ≡ record { left = left; right = right; pivot = pivot; against = denial pivot })) }
+    {
+        let against = deny(pivot);
+        (has(literals, left, pivot) && has(literals, right, against)).then_some(Merge {
+            left,
+            right,
+            pivot,
+            against,
+        })
+    }
+
+    // One step, where both clauses are read up to these places.
+    fn step(self, literals: &[u32], i: usize, j: usize) -> Option<Next>
+        requires left { (i ≤ self.left.end) × (self.left.end ≤ length literals.now) }
+        requires right { (j ≤ self.right.end) × (self.right.end ≤ length literals.now) }
+        ensures { MatchOption result (rest_at self literals.now i j ≡ []) (λ n. (i ≤ n.i) × (n.i ≤ self.left.end) × (j ≤ n.j) × (n.j ≤ self.right.end) × (i + j < n.i + n.j) × (rest_at self literals.now i j ≡ option_to_list n.keep ++ rest_at self literals.now n.i n.j)) }
+    {
+        let x = literal_before(literals, self.left.end, i);
+        let y = literal_before(literals, self.right.end, j);
+        match (x, y) {
+            (None, None) => None,
+            (Some(x), None) => Some(Next::new((x != self.pivot).then_some(x), i + 1, j)),
+            (None, Some(y)) => Some(Next::new((y != self.against).then_some(y), i, j + 1)),
+            (Some(x), Some(y)) => {
+                let pace = self.advance(x, y);
+                let keep = (pace.kept == 1).then_some(x.min(y));
+                Some(Next::new(keep, i + pace.left, j + pace.right))
             }
-            free -= 1;
         }
-        i = next.i;
-        j = next.j;
     }
-    true
-}
 
-// Whether the resolvent fits from a place on. It is counted only where the room is short of both clauses together.
-pub(super) fn has_room(literals: &[u32], from: usize, a: Bounds, b: Bounds, p: u32, q: u32) -> bool
-    requires left { (a.start ≤ a.end) × (a.end ≤ length literals.now) }
-    requires right { (b.start ≤ b.end) × (b.end ≤ length literals.now) }
-    ensures { result ≡ nat_le (from + length (rest literals.now p q a.start a.end b.start b.end)) (length literals.now) }
-{
-    if from > literals.len() {
-        return false;
+    fn left_of(self, x: u32, y: u32) -> usize
+        ensures { LeftOf x y self.pivot self.against result }
+    {
+        ((x == self.pivot) | ((y != self.against) & (x <= y))) as usize
     }
-    let free = literals.len() - from;
-    let left = a.end - a.start;
-    if left <= free && b.end - b.start <= free - left {
-        return true;
-    }
-    at_most(literals, a, b, p, q, free)
-}
 
-// Writes the resolvent from a place on, and answers where it ends.
-pub(super) fn join(literals: &mut [u32], from: usize, a: Bounds, b: Bounds, p: u32, q: u32) -> usize
-    requires left { (a.start ≤ a.end) × (a.end ≤ from) }
-    requires right { (b.start ≤ b.end) × (b.end ≤ from) }
-    requires room { from + length (rest literals.old p q a.start a.end b.start b.end) ≤ length literals.old }
-    ensures end { result ≡ from + length (rest literals.old p q a.start a.end b.start b.end) }
-    ensures after { literals.new ≡ placed from (rest literals.old p q a.start a.end b.start b.end) literals.old }
-{
-    let mut i = a.start;
-    let mut j = b.start;
-    let mut at = from;
-    'both: while i < a.end && j < b.end && at < literals.len() {
-        let x = literals[i];
-        let y = literals[j];
-        let pace = advance(x, y, p, q);
-        literals[at] = chosen(pace.kept, smaller(x, y), literals[at]);
-        at += pace.kept;
-        i += pace.left;
-        j += pace.right;
+    fn right_of(self, x: u32, y: u32) -> usize
+        ensures { RightOf x y self.pivot self.against result }
+    {
+        ((x != self.pivot) & ((y == self.against) | (y <= x))) as usize
     }
-    while let Some(next) = step(literals, i, a.end, j, b.end, p, q) {
-        if let Some(x) = next.keep {
-            literals[at] = x;
-            at += 1;
+
+    fn kept_of(self, x: u32, y: u32) -> usize
+        ensures { KeptOf x y self.pivot self.against result }
+    {
+        ((x != self.pivot) & (y != self.against)) as usize
+    }
+
+    // No branch, for speed: which of the two literals is smaller cannot be guessed.
+    fn advance(self, x: u32, y: u32) -> Pace
+        ensures { Moves x y self.pivot self.against result.left result.right result.kept }
+    {
+        let left = self.left_of(x, y);
+        let right = self.right_of(x, y);
+        let kept = self.kept_of(x, y);
+        Pace { left, right, kept }
+    }
+
+    // Whether the resolvent has at most so many literals.
+    fn is_at_most(self, literals: &[u32], most: usize) -> bool
+        requires left { (self.left.start ≤ self.left.end) × (self.left.end ≤ length literals.now) }
+        requires right { (self.right.start ≤ self.right.end) × (self.right.end ≤ length literals.now) }
+        ensures { result ≡ nat_le (length (merged self literals.now)) most }
+    {
+        let mut i = self.left.start;
+        let mut j = self.right.start;
+        let mut free = most;
+        while let Some(next) = self.step(literals, i, j) {
+            if next.keep.is_some() {
+                if free == 0 {
+                    return false;
+                }
+                free -= 1;
+            }
+            i = next.i;
+            j = next.j;
         }
-        i = next.i;
-        j = next.j;
+        true
     }
-    at
+
+    // Whether the resolvent fits from a place on. It is counted only where the room is short of both clauses together.
+    pub(super) fn fits(self, literals: &[u32], from: usize) -> bool
+        requires left { (self.left.start ≤ self.left.end) × (self.left.end ≤ length literals.now) }
+        requires right { (self.right.start ≤ self.right.end) × (self.right.end ≤ length literals.now) }
+        ensures { result ≡ nat_le (from + length (merged self literals.now)) (length literals.now) }
+    {
+        let Some(free) = literals.len().checked_sub(from) else {
+            return false;
+        };
+        let left = self.left.end - self.left.start;
+        let right = self.right.end - self.right.start;
+        if left <= free && right <= free - left {
+            return true;
+        }
+        self.is_at_most(literals, free)
+    }
+
+    // Writes the resolvent from a place on, and answers where it ends.
+    pub(super) fn write(self, literals: &mut [u32], from: usize) -> usize
+        requires left { (self.left.start ≤ self.left.end) × (self.left.end ≤ from) }
+        requires right { (self.right.start ≤ self.right.end) × (self.right.end ≤ from) }
+        requires room { from + length (merged self literals.old) ≤ length literals.old }
+        ensures end { result ≡ from + length (merged self literals.old) }
+        ensures after { literals.new ≡ placed from (merged self literals.old) literals.old }
+    {
+        let mut i = self.left.start;
+        let mut j = self.right.start;
+        let mut at = from;
+        'both: while i < self.left.end && j < self.right.end && at < literals.len() {
+            let x = literals[i];
+            let y = literals[j];
+            let pace = self.advance(x, y);
+            literals[at] = chosen(pace.kept, x.min(y), literals[at]);
+            at += pace.kept;
+            i += pace.left;
+            j += pace.right;
+        }
+        while let Some(next) = self.step(literals, i, j) {
+            if let Some(x) = next.keep {
+                literals[at] = x;
+                at += 1;
+            }
+            i = next.i;
+            j = next.j;
+        }
+        at
+    }
 }

@@ -10,11 +10,10 @@ ghost use Rattle.resolution.specs.Resolvents.{ResolventsLaw};
 ghost use Rattle.resolution.specs.Outcomes.{admitted, granted};
 ghost use Rattle.resolution.specs.States.{own, taken, resolved, fresh, closed, ended, Standing, Follows, Steps, Carries};
 
-use super::deny;
 use super::lists::ClauseList;
-use super::merging::{has, has_room, join};
+use super::merging::Merge;
 use refusal::RefutationFault;
-use stack::{Bounds, Span, Stack};
+use stack::{Bounds, MOST_LITERALS, MOST_SPANS, Span, Stack};
 
 // Its clauses are the spans from `first` up to the top; their literals start at `floor`.
 pub struct Refutation {
@@ -56,10 +55,11 @@ impl Refuted {
 }
 
 // Whether a refutation may work in areas of these lengths.
+#[tactic(auto, unfolding(crate::specs::Outcomes::admitted))]
 pub(super) fn fitting(literals: &[u32], spans: &[Span]) -> bool
     ensures { result ≡ admitted (length literals.now) (length spans.now) }
 {
-    literals.len() <= 1048576 && spans.len() <= 65536
+    literals.len() <= MOST_LITERALS && spans.len() <= MOST_SPANS
 }
 
 impl Refutation {
@@ -67,9 +67,7 @@ impl Refutation {
     fn clause(&self, number: usize, literals: &[u32], spans: &[Span]) -> Option<Bounds>
         ensures { MatchOption result (length (own self.now literals.now spans.now) ≤ number) (λ b. (number < length (own self.now literals.now spans.now)) × (b.start ≤ b.end) × (b.end ≤ self.now.literals.used) × (b.end ≤ length literals.now) × (part literals.now b.start b.end ≡ numbered_clause (own self.now literals.now spans.now) number)) }
     {
-        let Some(span) = self.spans.read(spans, self.first.saturating_add(number)) else {
-            return None;
-        };
+        let span = self.spans.read(spans, self.first.saturating_add(number))?;
         Some(span.bounds(self.literals.used.min(literals.len())))
     }
 
@@ -123,9 +121,7 @@ impl Refutation {
             return Err(RefutationFault::Full);
         }
         let start = self.literals.used;
-        if !list.copy(number, &mut self.literals, literals, spans) {
-            return Err(RefutationFault::Full);
-        }
+        list.copy(number, &mut self.literals, literals, spans)?;
         Ok(self.note(start, spans))
     }
 
@@ -143,27 +139,21 @@ impl Refutation {
         ensures carries { (list : List (List ℕ)) → Standing self.old literals.old spans.old → Carries list (own self.old literals.old spans.old) (own self.new literals.new spans.new) }
         ensures law { ResolventsLaw }
     {
-        let Some(a) = self.clause(left, literals, spans) else {
-            return Err(RefutationFault::NoClause);
-        };
-        let Some(b) = self.clause(right, literals, spans) else {
-            return Err(RefutationFault::NoClause);
-        };
-        let against = deny(pivot);
-        if !has(literals, a, pivot) {
-            return Err(RefutationFault::NoPivot);
-        }
-        if !has(literals, b, against) {
-            return Err(RefutationFault::NoPivot);
-        }
+        let a = self
+            .clause(left, literals, spans)
+            .ok_or(RefutationFault::NoClause)?;
+        let b = self
+            .clause(right, literals, spans)
+            .ok_or(RefutationFault::NoClause)?;
+        let merge = Merge::new(literals, a, b, pivot).ok_or(RefutationFault::NoPivot)?;
         if !self.has_place(literals, spans) {
             return Err(RefutationFault::Full);
         }
         let start = self.literals.used;
-        if !has_room(literals, start, a, b, pivot, against) {
+        if !merge.fits(literals, start) {
             return Err(RefutationFault::Full);
         }
-        self.literals.used = join(literals, start, a, b, pivot, against);
+        self.literals.used = merge.write(literals, start);
         Ok(self.note(start, spans))
     }
 
@@ -197,12 +187,10 @@ impl Refutation {
         ensures refuted { MatchResult result (λ _. (list : List (List ℕ)) → Follows list (own self.old literals.now spans.now) → Unsat list) (λ e. e ≡ NotRefuted) }
     {
         let made = self.spans.used.min(spans.len()).saturating_sub(self.first);
-        if made == 0 {
-            return Err(RefutationFault::NotRefuted);
-        }
-        let Some(latest) = self.clause(made - 1, literals, spans) else {
-            return Err(RefutationFault::NotRefuted);
-        };
+        let last = made.checked_sub(1).ok_or(RefutationFault::NotRefuted)?;
+        let latest = self
+            .clause(last, literals, spans)
+            .ok_or(RefutationFault::NotRefuted)?;
         if latest.start < latest.end {
             return Err(RefutationFault::NotRefuted);
         }

@@ -3,9 +3,10 @@ ghost use Rattle.std.specs.Prelude.{◌≡◌, ℕ, ◌+◌, ◌<◌, ◌≤◌,
 ghost use Rattle.std.specs.List.{AllByRecursion};
 ghost use Rattle.stack.specs.Runs.{runs};
 ghost use Rattle.resolution.specs.Clauses.{Rising};
-ghost use Rattle.resolution.specs.Lists.{Proper, Tells};
+ghost use Rattle.resolution.specs.Lists.{numbered_clause, Proper, Tells};
 
 use super::lists::ClauseList;
+use refusal::RefutationFault;
 use stack::{Bounds, Span, Stack};
 
 // Clauses as spans of a slice of literals.
@@ -28,12 +29,16 @@ impl ClauseList for ClauseTable<'_, '_> {
         self.spans.len()
     }
 
-    fn copy(&self, number: usize, stack: &mut Stack, literals: &mut [u32], spans: &[Span]) -> bool {
-        if number >= self.spans.len() {
-            return false;
-        }
-        let Bounds { start, end } = self.spans[number].bounds(self.literals.len());
-        stack.push_all(literals, &self.literals[start..end])
+    fn copy(
+        &self,
+        number: usize,
+        stack: &mut Stack,
+        literals: &mut [u32],
+        spans: &[Span],
+    ) -> Result<(), RefutationFault> {
+        let clause = self.clause(number).ok_or(RefutationFault::NoClause)?;
+        stack.push_all(literals, clause)?;
+        Ok(())
     }
 }
 
@@ -41,38 +46,34 @@ impl ClauseList for ClauseTable<'_, '_> {
 fn rising(clause: &[u32]) -> bool
     ensures { Tells result (Rising clause.now) }
 {
-    let mut i = 1;
-    while i < clause.len() {
-        if clause[i - 1] >= clause[i] {
-            return false;
-        }
-        i += 1;
-    }
-    true
+    clause.is_sorted_by(|lower, upper| lower < upper)
 }
 
 fn proper(literals: &[u32], span: Span) -> bool
     ensures { Tells result (Proper literals.now span) }
 {
     let start = span.start as usize;
-    let length = span.length as usize;
-    if start > literals.len() || length > literals.len() - start {
-        return false;
-    }
-    let end = start + length;
-    rising(&literals[start..end])
+    let end = start + span.length as usize;
+    literals.get(start..end).is_some_and(rising)
 }
 
 impl<'l, 's> ClauseTable<'l, 's> {
+    // The literals of one clause, if there is such a clause.
+    fn clause(&self, number: usize) -> Option<&'l [u32]>
+        ensures { MatchOption result (length self.now.spans.now ≤ number) (λ c. (number < length self.now.spans.now) × (c.now ≡ numbered_clause (runs self.now.literals.now self.now.spans.now) number)) }
+    {
+        let span = self.spans.get(number)?;
+        let Bounds { start, end } = span.bounds(self.literals.len());
+        Some(&self.literals[start..end])
+    }
+
     // The table of these clauses, if each lies within the literals and rises.
     pub fn new(literals: &'l [u32], spans: &'s [Span]) -> Option<ClauseTable<'l, 's>>
         ensures { MatchOption result (AllByRecursion (Proper literals.now) spans.now → ⊥) (λ t. (t.literals.now ≡ literals.now) × (t.spans.now ≡ spans.now) × AllByRecursion Rising (runs literals.now spans.now)) }
     {
-        for span in spans {
-            if !proper(literals, *span) {
-                return None;
-            }
-        }
-        Some(ClauseTable { literals, spans })
+        spans
+            .iter()
+            .all(|span| proper(literals, *span))
+            .then_some(ClauseTable { literals, spans })
     }
 }

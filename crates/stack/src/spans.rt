@@ -6,7 +6,7 @@ use areas::Blank;
 
 // The literals of one clause: where they start on a stack of literals, and how many there are.
 #[repr(C)]
-#[derive(Clone, Copy)]
+#[derive(Clone, Copy, Default)]
 pub struct Span {
     pub start: u32,
     pub length: u32,
@@ -24,16 +24,10 @@ impl Blank for Span {
 }
 
 // Places in an area: from `start` up to `end`.
-#[derive(Clone, Copy)]
+#[derive(Clone, Copy, Default)]
 pub struct Bounds {
     pub start: usize,
     pub end: usize,
-}
-
-fn least(a: usize, b: usize) -> usize
-    ensures { result ≡ min a b }
-{
-    if a < b { a } else { b }
 }
 
 impl Span {
@@ -42,8 +36,8 @@ impl Span {
         ensures order { (result.start ≤ result.end) × (result.end ≤ n) }
         ensures marks { (area : List ℕ) → n ≤ length area → part area result.start result.end ≡ run (take n area) self }
     {
-        let start = least(self.start as usize, n);
-        let length = least(self.length as usize, n - start);
+        let start = (self.start as usize).min(n);
+        let length = (self.length as usize).min(n - start);
         Bounds {
             start,
             end: start + length,

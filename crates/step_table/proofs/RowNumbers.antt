@@ -1,31 +1,24 @@
--- The number of a row, by its bits from the last to the first.
-use Rattle.std.proofs.Common.{◌≡◌, ℕ, suc, ◌+◌, ◌-◌, ◌*◌, ◌^◌, ◌<◌, ◌≤◌, Bool, false, List, ◌∷◌, length, get_or, take, drop, ap, ◌∙◌, arith, pow_mono}
-use Rattle.std.proofs.lemmas.List.{length-take-le, length-drop, length-map, drop_more}
+-- The number of a row, made from its last bit to its first.
+use Rattle.std.proofs.Common.{◌≡◌, ℕ, suc, ◌+◌, ◌*◌, ◌%◌, ◌<◌, ◌≤◌, List, [], ◌∷◌, length, get_or, reverse, fold, refl, ap, ◌∙◌, arith, pow_mono}
+use lib.Bits.{bit_or}
+use Rattle.std.proofs.lemmas.Grind.{or_after_shift, reverse_onto}
+use Rattle.std.proofs.lemmas.List.{length-map}
+use Rattle.std.proofs.lemmas.List.Sums.{fold-append}
 use Rattle.machine.specs.Rows.{bit, bits}
-use Rattle.machine.proofs.RowBits.{get_or_bits, byte_bit}
+use Rattle.machine.proofs.RowBits.{byte_bit}
 use Rattle.table_format.specs.Stepping.{number}
 use Rattle.table_format.proofs.Numbers.{number_below}
 
--- the bits of a row from bit k to the last of n
-abbrev pub bits_from : List ℕ → ℕ → ℕ → List Bool
-bits_from row n k = take (n - k) (drop (1 + k) (bits row))
+-- a word with one bit more below its own
+abbrev pub with_bit : ℕ → ℕ → ℕ
+with_bit sum byte = bit_or (sum * 2 % 18446744073709551616) byte
 
--- one bit more
-pub number_more : (row : List ℕ) (n k k' : ℕ) → k ≤ n → k ≡ suc k' → n < length row → get_or row (1 + k') 0 < 2 →
-    2 * number (bits_from row n k) + get_or row (1 + k') 0 ≡ number (bits_from row n k')
-number_more row n k k' l e room small =
-    let size : n - k' ≡ suc (n - k) = omega arith in
-    let on : 1 + k' + 1 ≡ 1 + k = omega arith in
-    let in' : 1 + k' < length (bits row) = omega (arith, length-map row bit) in
-    let more : bits_from row n k' ≡ bit (get_or row (1 + k') 0) ∷ bits_from row n k =
-    ap (λ (j : ℕ). take j (drop (1 + k') (bits row))) size ∙ ap (take (suc (n - k))) (drop_more (bits row) (1 + k') false in')
-    ∙ ap (λ (j : ℕ). get_or (bits row) (1 + k') false ∷ take (n - k) (drop j (bits row))) on
-    ∙ ap (λ (b : Bool). b ∷ bits_from row n k) (get_or_bits row (1 + k')) in
-    omega (arith, ap number more, byte_bit (get_or row (1 + k') 0) small)
-
--- the number of at most 10 bits is below 1024
-pub number_small : (row : List ℕ) (n k : ℕ) → k ≤ n → n ≤ 10 → n < length row → number (bits_from row n k) < 1024
-number_small row n k l few room =
-    let size : length (bits_from row n k) ≡ n - k = length-take-le (n - k) (drop (1 + k) (bits row)) (omega (arith, length-drop (1 + k) (bits row), length-map row bit)) in
-    let low : n - k ≤ 10 = omega arith in
-    omega (arith, number_below (bits_from row n k), ap (λ (j : ℕ). 2 ^ j) size, pow_mono low)
+pub number_folded : (ys : List ℕ) → length ys ≤ 10 → ((k : ℕ) → k < length ys → get_or ys k 0 < 2) → fold with_bit 0 (reverse ys) ≡ number (bits ys)
+number_folded [] few small = refl
+number_folded (y ∷ ys) few small =
+    let rest : fold with_bit 0 (reverse ys) ≡ number (bits ys) = number_folded ys (omega arith) (λ k l. small (suc k) (omega arith)) in
+    let y< : y < 2 = small 0 (omega arith) in
+    let size : length (bits ys) ≤ 10 = omega (arith, length-map ys bit) in
+    let low : number (bits ys) * 2 < 18446744073709551616 = omega (arith, number_below (bits ys), pow_mono size) in
+    let last : with_bit (number (bits ys)) y ≡ number (bits ys) * 2 + y = or_after_shift (number (bits ys)) 2 18446744073709551616 y refl y< low in
+    ap (fold with_bit 0) (reverse_onto ys y []) ∙ fold-append with_bit 0 (reverse ys) (y ∷ []) ∙ ap (λ a. with_bit a y) rest ∙ omega (arith, last, byte_bit y y<)

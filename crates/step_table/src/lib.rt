@@ -11,10 +11,12 @@ ghost use Rattle.step_table.specs.Filling.{smallest_bytes};
 use filling::{mark_row, row_number, set_bits};
 use machine::{Clause, Machine, can_fill};
 use refusal::{DocketFault, TableRefusal};
+use row::Row;
 use table_format::examine;
 
-mod clauses;
 mod filling;
+mod literals;
+mod row;
 mod rows;
 mod table;
 #[cfg(test)]
@@ -48,7 +50,7 @@ impl<'a> StepTable<'a> {
 impl<'a> Machine for StepTable<'a> {
     ghost meaning = { λ c. meant (table_of c.bytes.now) };
 
-    ghost lawful = { λ c. table_lawful (table_of c.bytes.now) (record { few_bits = c.few; rules_some = c.ruled.0; rules_few = c.ruled.1; states = c.states; marks = c.marks }) };
+    ghost lawful = { λ c. table_lawful (table_of c.bytes.now) c.good.0 };
 
     fn inputs(&self) -> usize {
         self.bytes[1] as usize
@@ -71,27 +73,17 @@ impl<'a> Machine for StepTable<'a> {
     }
 
     fn start_bit(&self, bit: usize) -> Option<bool> {
-        if bit < self.state_bits() {
-            Some(false)
-        } else {
-            None
-        }
+        (bit < self.state_bits()).then_some(false)
     }
 
     fn next_literal(&self, bit: usize) -> Option<u32> {
-        if bit < self.state_bits() {
-            Some(2 * (self.first_outcome() + bit) as u32)
-        } else {
-            None
-        }
+        let first = self.first_outcome();
+        (bit < self.state_bits()).then(|| 2 * (first + bit) as u32)
     }
 
     fn rule_literal(&self, rule: usize) -> Option<u32> {
-        if rule < self.rules() {
-            Some(2 * (self.first_outcome() + self.state_bits() + rule) as u32)
-        } else {
-            None
-        }
+        let first = self.first_outcome() + self.state_bits();
+        (rule < self.rules()).then(|| 2 * (first + rule) as u32)
     }
 
     fn clause(&self, number: usize) -> Option<Clause> {
@@ -99,11 +91,8 @@ impl<'a> Machine for StepTable<'a> {
             return Some(Clause::of(&[1]));
         }
         let per_row = self.per_row();
-        let row = (number - 1) / per_row;
-        if row >= self.rows() {
-            return None;
-        }
-        Some(self.row_clause(row, (number - 1) % per_row))
+        let row = self.row((number - 1) / per_row)?;
+        Some(row.clause((number - 1) % per_row))
     }
 
     fn fill(&self, row: &mut [u8]) -> Result<(), DocketFault> {
@@ -112,15 +101,19 @@ impl<'a> Machine for StepTable<'a> {
             return Err(DocketFault::UnfitArea);
         }
         let number = row_number(row, given);
+        let given_row = Row {
+            table: *self,
+            number,
+        };
         let first = self.first_outcome();
         row[0] = 0;
         mark_row(row, 1 + given, self.rows(), number);
-        set_bits(row, first, self.state_bits(), self.next_state(number));
+        set_bits(row, first, self.state_bits(), given_row.next_state());
         set_bits(
             row,
             first + self.state_bits(),
             self.rules(),
-            self.broken_rules(number),
+            given_row.broken_rules(),
         );
         Ok(())
     }

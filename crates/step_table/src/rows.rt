@@ -1,8 +1,9 @@
-// The numbers of a step table, read in place.
-ghost use Rattle.std.specs.Prelude.{◌≡◌, ◌+◌, ◌*◌, ◌<◌};
+// How many rows a step table has, and what stands for each.
+ghost use Rattle.std.specs.Prelude.{◌≡◌, ◌+◌, ◌*◌, ◌≤◌, MatchOption};
 ghost use Rattle.table_format.specs.Tables.{rows, table_of};
 ghost use Rattle.table_format.specs.Stepping.{row_variable};
 
+use crate::row::Row;
 use crate::table::StepTable;
 use machine::Machine;
 
@@ -35,22 +36,16 @@ impl<'a> StepTable<'a> {
         1 + self.given() + self.rows()
     }
 
-    // The next state of a row, as a number.
-    pub(crate) fn next_state(&self, row: usize) -> u32
-        requires { row < rows (table_of self.now.bytes.now) }
-        ensures { result ≡ (table_of self.now.bytes.now).next row }
+    // The row with a number, if there is one.
+    pub(crate) fn row(&self, number: usize) -> Option<Row<'a>>
+        ensures { MatchOption result (rows (table_of self.now.bytes.now) ≤ number) (λ row. (row.table ≡ self.now) × (row.number ≡ number)) }
     {
-        let at = 5 + 7 * row;
-        u32::from(u16::from_le_bytes([self.bytes[at], self.bytes[at + 1]]))
-    }
-
-    // The broken rules of a row, bit o for rule o.
-    pub(crate) fn broken_rules(&self, row: usize) -> u32
-        requires { row < rows (table_of self.now.bytes.now) }
-        ensures { result ≡ (table_of self.now.bytes.now).broken row }
-    {
-        let b = self.bytes;
-        let at = 7 + 7 * row;
-        u32::from_le_bytes([b[at], b[at + 1], b[at + 2], b[at + 3]])
+        if number >= self.rows() {
+            return None;
+        }
+        Some(Row {
+            table: *self,
+            number,
+        })
     }
 }

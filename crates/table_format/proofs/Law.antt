@@ -10,7 +10,8 @@ use Rattle.resolution.proofs.Settings.{true_twice, denial_near}
 use Rattle.machine.specs.Meaning.{Lawful, Fits, lit, sat}
 use Rattle.table_format.specs.Tables.{Table, Bounded, rows}
 use Rattle.table_format.specs.Stepping.{binary_digit, valued, row_of, row_variable, next_variable, rule_variable, meant, fitting}
-use Rattle.table_format.proofs.Literals.{models_at, rising_from, valued_near, from_valued}
+use Rattle.resolution.proofs.Rises.{rising_by_steps}
+use Rattle.table_format.proofs.Literals.{models_at, valued_near, from_valued}
 use Rattle.table_format.proofs.RowClauses.{clauses_per_row, meeting, meeting_length, meeting_given, meeting_last, clauses_count, each_clause}
 use Rattle.table_format.proofs.OneFit.{fitting_fits, next_value, rule_value, fit_is}
 
@@ -32,7 +33,7 @@ pair_fine t a b l m =
 meeting_rises : (t : Table) (r : ℕ) → Rising (meeting t r)
 meeting_rises t r =
     let g : ℕ = t.inputs + t.state_bits in
-    rising_from (meeting t r) (λ k l.
+    rising_by_steps (meeting t r) (λ k l.
     let k< : k < g = omega (arith, meeting_length t r) in
     ⊎_elim
     (λ (low : suc k < g).

@@ -4,7 +4,6 @@ use Rattle.std.proofs.lemmas.Bool.{and_from, or_left, or_right, or_from, or_part
 use Rattle.resolution.specs.Clauses.{literal_true, denial, holds, models, Rising}
 use Rattle.resolution.specs.States.{Implied}
 use Rattle.resolution.proofs.Laws.{implied_member}
-use Rattle.resolution.proofs.Rises.{rises, is_rising_from, rises_yes}
 use Rattle.resolution.proofs.Settings.{true_twice, true_twice_odd, denial_flips}
 use Rattle.machine.specs.Meaning.{lit}
 use Rattle.table_format.specs.Stepping.{valued}
@@ -34,15 +33,6 @@ module _ (v : ℕ → Bool) where
   pub models_from : (cs : List (List ℕ)) → ((c : ℕ) → c < length cs → holds v (get_or cs c []) ≡ true) → models v cs ≡ true
   models_from [] h = refl
   models_from (c ∷ cs) h = and_from (holds v c) (models v cs) (h 0 (omega arith)) (models_from cs (λ k l. h (suc k) (omega arith)))
-
-rises_from : (c : List ℕ) → ((k : ℕ) → suc k < length c → get_or c k 0 < get_or c (suc k) 0) → rises c ≡ true
-rises_from [] h = refl
-rises_from (x ∷ []) h = refl
-rises_from (x ∷ y ∷ r) h = and_from (ltb x y) (is_rising_from y r) (lt-ltb x y (h 0 (omega arith))) (rises_from (y ∷ r) (λ k l. h (suc k) (omega arith)))
-
--- each literal below the next
-pub rising_from : (c : List ℕ) → ((k : ℕ) → suc k < length c → get_or c k 0 < get_or c (suc k) 0) → Rising c
-rising_from c h = rises_yes c (rises_from c h)
 
 -- the literal that says that variable n is b
 pub valued_near : (n : ℕ) (b : Bool) → (2 * n ≤ valued n b) × (valued n b < 2 * n + 2)

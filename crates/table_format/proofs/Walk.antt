@@ -1,12 +1,10 @@
 -- The walk over the bytes that are left puts the questions that are put to the whole.
-use Rattle.std.proofs.Common.{◌≡◌, ℕ, suc, ◌+◌, ◌-◌, ◌*◌, ◌^◌, ◌<◌, ◌≤◌, Bool, true, false, cond, ◌&&◌, leb, List, get_or, drop, Ok, Err, Result, sym, refl, ap, ◌∙◌, arith}
+use Rattle.std.proofs.Common.{◌≡◌, ℕ, suc, ◌+◌, ◌-◌, ◌*◌, ◌^◌, ◌<◌, ◌≤◌, Bool, true, false, cond, List, get_or, drop, Ok, Err, Result, sym, refl, ap, ◌∙◌, arith}
 use Rattle.std.proofs.lemmas.List.{length-drop, get_or-drop, drop-drop}
-use Rattle.std.proofs.lemmas.Bool.{and_parts, leb-true}
 use Rattle.std.proofs.lemmas.Bool.Decides.{nat_tests}
 use Rattle.refusal.specs.declared.faults.TableFault.{TableFault}
 use Rattle.refusal.specs.declared.faults.TableFault.TheVariants.{NoSizes, Sizes, NoRow, RowNumbers}
 use Rattle.refusal.specs.declared.faults.TableRefusal.{TableRefusal}
-use Rattle.table_format.specs.declared.sizes.Sizes.{Sizes as Given}
 use Rattle.table_format.specs.Tables.{rows, table_of}
 use Rattle.table_format.specs.Questions.{refused, stands, sizes_fit, row_fits, ending, rows_read, read}
 use Rattle.table_format.specs.Records.{sizes_taken, row_taken, ended}
@@ -31,15 +29,16 @@ module _ {X : Type 0} (missing unfit : TableFault) (offset : ℕ) (x : X) (more 
   off true false fault e = let s : fault ≡ unfit = cc in ap (λ (f : TableFault). refused f offset) s
   off false fit fault e = let s : fault ≡ missing = cc in ap (λ (f : TableFault). refused f offset) s
 
--- the sizes that stand in bytes
+-- the sizes that stand in bytes: inputs, state bits, rules
+abbrev pub Given : Type 0
+Given = ℕ × ℕ × ℕ
+
 abbrev pub given : List ℕ → Given
-given bs = record { inputs = get_or bs 1 0; state_bits = get_or bs 2 0; rules = get_or bs 3 0 }
+given bs = (get_or bs 1 0, get_or bs 2 0, get_or bs 3 0)
 
 pub record Opened (bs rest : List ℕ) (s : Given) : Type 0 where
   pub sizes : s ≡ given bs
   pub left : rest ≡ drop 4 bs
-  pub few : s.inputs + s.state_bits ≤ 10
-  pub ruled : s.rules ≤ 32
   pub same : read bs ≡ rows_read bs (rows (table_of bs)) 0
 
 pub opened : (bs rest : List ℕ) (s : Given) → Ok (s, rest) ≡ sizes_taken bs → Opened bs rest s
@@ -47,16 +46,7 @@ unfolding read
 opened bs rest s e =
     let t = table_of bs in
     let q = on NoSizes Sizes 0 (given bs, drop 4 bs) (rows_read bs (rows t) 0) (stands bs 0 1 4) (sizes_fit t) (s, rest) e in
-    let is : s ≡ given bs = ap (λ (p : Given × List ℕ). p.0) q.1 in
-    let parts = and_parts (leb (t.inputs + t.state_bits) 10) (leb 1 t.rules && leb t.rules 32) q.0 in
-    let ruled = and_parts (leb 1 t.rules) (leb t.rules 32) parts.1 in
-    record {
-      sizes = is;
-      left = ap (λ (p : Given × List ℕ). p.1) q.1;
-      few = rw is (leb-true (t.inputs + t.state_bits) 10 parts.0);
-      ruled = rw is (leb-true t.rules 32 ruled.1);
-      same = q.2;
-    }
+    record { sizes = ap (λ (p : Given × List ℕ). p.0) q.1; left = ap (λ (p : Given × List ℕ). p.1) q.1; same = q.2 }
 
 pub unopened : (bs : List ℕ) (fault : TableFault) → Err fault ≡ sizes_taken bs → refused fault 0 ≡ read bs
 unfolding read
@@ -95,31 +85,31 @@ pub record Walked (bs rest : List ℕ) (n r : ℕ) : Type 0 where
   pub left : rest ≡ drop (4 + 7 * r) bs
   pub same : read bs ≡ rows_read bs (n - r) r
 
-pub walked_none : (bs rest : List ℕ) (s : Given) (n : ℕ) → Opened bs rest s → n ≡ 2 ^ (s.inputs + s.state_bits) → Walked bs rest n 0
+pub walked_none : (bs rest : List ℕ) (s : Given) (n : ℕ) → Opened bs rest s → n ≡ 2 ^ (s.0 + s.1) → Walked bs rest n 0
 walked_none bs rest s n q e =
-    let all : n ≡ rows (table_of bs) = e ∙ ap (λ (g : Given). 2 ^ (g.inputs + g.state_bits)) q.sizes in
+    let all : n ≡ rows (table_of bs) = e ∙ ap (λ (g : Given). 2 ^ (g.0 + g.1)) q.sizes in
     let z : n - 0 ≡ rows (table_of bs) = omega arith in
     record { left = q.left; same = q.same ∙ ap (λ (k : ℕ). rows_read bs k 0) (sym z) }
 
 module _ (bs rest : List ℕ) (n r : ℕ) (w : Walked bs rest n r) where
   -- the first row that is left
   module _ (s : Given) (is : s ≡ given bs) (more : r < n) where
-    row_is : row_taken s.state_bits s.rules rest ≡ taken (stands bs (4 + 7 * r) 2 7) (row_fits (table_of bs) r) NoRow RowNumbers (drop 7 (drop (4 + 7 * r) bs))
+    row_is : row_taken s.1 s.2 rest ≡ taken (stands bs (4 + 7 * r) 2 7) (row_fits (table_of bs) r) NoRow RowNumbers (drop 7 (drop (4 + 7 * r) bs))
     row_is =
-        ap (λ (g : Given). row_taken g.state_bits g.rules rest) is
+        ap (λ (g : Given). row_taken g.1 g.2 rest) is
         ∙ (ap (row_taken (get_or bs 2 0) (get_or bs 3 0)) w.left ∙ row_left bs r)
 
     same_is : read bs ≡ asked (stands bs (4 + 7 * r) 2 7) (row_fits (table_of bs) r) NoRow RowNumbers (4 + 7 * r) (rows_read bs (n - (r + 1)) (r + 1))
     unfolding rows_read
     same_is = let e : n - r ≡ suc (n - (r + 1)) = omega arith in w.same ∙ ap (λ (k : ℕ). rows_read bs k r) e
 
-    pub walked_more : (after : List ℕ) → Ok after ≡ row_taken s.state_bits s.rules rest → Walked bs after n (r + 1)
+    pub walked_more : (after : List ℕ) → Ok after ≡ row_taken s.1 s.2 rest → Walked bs after n (r + 1)
     walked_more after e =
         let q = on NoRow RowNumbers (4 + 7 * r) (drop 7 (drop (4 + 7 * r) bs)) (rows_read bs (n - (r + 1)) (r + 1)) (stands bs (4 + 7 * r) 2 7) (row_fits (table_of bs) r) after (e ∙ row_is) in
         let on7 : 4 + 7 * r + 7 ≡ 4 + 7 * (r + 1) = omega arith in
         record { left = q.1 ∙ (drop-drop 7 (4 + 7 * r) bs ∙ ap (λ (k : ℕ). drop k bs) on7); same = same_is ∙ q.2 }
 
-    pub walked_not : (fault : TableFault) → Err fault ≡ row_taken s.state_bits s.rules rest → refused fault (4 + 7 * r) ≡ read bs
+    pub walked_not : (fault : TableFault) → Err fault ≡ row_taken s.1 s.2 rest → refused fault (4 + 7 * r) ≡ read bs
     walked_not fault e =
         off NoRow RowNumbers (4 + 7 * r) (drop 7 (drop (4 + 7 * r) bs)) (rows_read bs (n - (r + 1)) (r + 1)) (stands bs (4 + 7 * r) 2 7) (row_fits (table_of bs) r) fault (e ∙ row_is)
         ∙ sym same_is

@@ -3,15 +3,14 @@ use Rattle.std.specs.Prelude.{ℕ, ◌+◌, ◌*◌, ◌^◌, cond, ◌&&◌, Li
 use Rattle.refusal.specs.declared.faults.TableFault.{TableFault}
 use Rattle.refusal.specs.declared.faults.TableFault.TheVariants.{NoSizes, Sizes, NoRow, RowNumbers, Ending}
 use Rattle.refusal.specs.declared.faults.TableRefusal.{TableRefusal}
-use Rattle.table_format.specs.declared.sizes.Sizes.{Sizes as Given}
 use Rattle.table_format.specs.Tables.{table_of}
 use Rattle.table_format.specs.Questions.{stands, sizes_fit, refused}
 
--- the sizes, and the bytes after them
-abbrev pub sizes_taken : List ℕ → Result (Given × List ℕ) TableFault
+-- the sizes (inputs, state bits, rules), and the bytes after them
+abbrev pub sizes_taken : List ℕ → Result ((ℕ × ℕ × ℕ) × List ℕ) TableFault
 sizes_taken bytes =
     cond (stands bytes 0 1 4)
-    (cond (sizes_fit (table_of bytes)) (Ok (record { inputs = slice_index bytes 1; state_bits = slice_index bytes 2; rules = slice_index bytes 3 }, drop 4 bytes)) (Err Sizes))
+    (cond (sizes_fit (table_of bytes)) (Ok ((slice_index bytes 1, slice_index bytes 2, slice_index bytes 3), drop 4 bytes)) (Err Sizes))
     (Err NoSizes)
 
 -- the bytes after a row, in a table of so many state bits and rules

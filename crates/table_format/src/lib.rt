@@ -5,7 +5,7 @@ ghost use Rattle.std.specs.Prelude.{◌≡◌, MatchResult, OnOk};
 ghost use Rattle.table_format.specs.Tables.{Encodes, Good};
 ghost use Rattle.table_format.specs.Questions.{read};
 
-use refusal::{TableFault, TableRefusal};
+use refusal::TableRefusal;
 use rows::{end, row};
 use sizes::Sizes;
 
@@ -20,19 +20,10 @@ pub fn examine(bytes: &[u8]) -> Result<(), TableRefusal>
     ensures exactly { MatchResult result (λ _. Encodes bytes.now) (λ _. Encodes bytes.now → ⊥) }
     ensures table { OnOk result (Good bytes.now) }
 {
-    let (sizes, mut rest) = match Sizes::first(bytes) {
-        Ok(taken) => taken,
-        Err(fault) => return Err(TableRefusal { fault, offset: 0 }),
-    };
+    let (sizes, mut rest) = Sizes::first(bytes).map_err(|fault| fault.at(0))?;
     let rows = sizes.rows();
     for r in 0..rows {
-        rest = match row(sizes, rest) {
-            Ok(after) => after,
-            Err(fault) => return Err(TableRefusal {
-                fault,
-                offset: 4 + 7 * r,
-            }),
-        };
+        rest = row(sizes, rest).map_err(|fault| fault.at(4 + 7 * r))?;
     }
     end(rest, 4 + 7 * rows)
 }

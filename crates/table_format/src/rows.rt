@@ -1,5 +1,5 @@
 // The rows of a step table, and its end.
-ghost use Rattle.std.specs.Prelude.{◌≡◌, ◌^◌, ◌<◌, ◌≤◌};
+ghost use Rattle.std.specs.Prelude.{◌≡◌, ◌^◌, ◌<◌};
 ghost use Rattle.std.specs.Result.{result_map_both};
 ghost use Rattle.table_format.specs.Records.{row_taken, ended};
 
@@ -8,13 +8,12 @@ use refusal::{TableFault, TableRefusal};
 
 // The bytes after the row that stands first.
 pub(crate) fn row(sizes: Sizes, rest: &[u8]) -> Result<&[u8], TableFault>
-    requires { (sizes.state_bits ≤ 10) × (sizes.rules ≤ 32) }
     ensures { result_map_both (λ after. after.now) (λ fault. fault) result ≡ row_taken sizes.state_bits sizes.rules rest.now }
 {
-    match rest {
-        [2, low, high, a, b, c, d, rest @ ..] => {
-            let next = u16::from_le_bytes([*low, *high]);
-            let broken = u32::from_le_bytes([*a, *b, *c, *d]);
+    match *rest {
+        [2, low, high, a, b, c, d, ref rest @ ..] => {
+            let next = u16::from_le_bytes([low, high]);
+            let broken = u32::from_le_bytes([a, b, c, d]);
             if !sizes.hold(next, broken) {
                 return Err(TableFault::RowNumbers);
             }
@@ -29,13 +28,9 @@ pub(crate) fn end(rest: &[u8], offset: usize) -> Result<(), TableRefusal>
     requires { offset < 2 ^ 32 }
     ensures { result ≡ ended rest.now offset }
 {
-    let offset = match rest {
-        [3] => return Ok(()),
-        [3, ..] => offset + 1,
-        _ => offset,
-    };
-    Err(TableRefusal {
-        fault: TableFault::Ending,
-        offset,
-    })
+    match rest {
+        [3] => Ok(()),
+        [3, ..] => Err(TableFault::Ending.at(offset + 1)),
+        _ => Err(TableFault::Ending.at(offset)),
+    }
 }

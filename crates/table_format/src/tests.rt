@@ -7,13 +7,13 @@ static TABLE: [u8; 34] = [
     3, 3,
 ];
 
-// The table up to a length with one byte changed, and what is refused of it: a number, 0 for none, and an offset.
+// The table up to a length with one byte changed, and what is refused of it: a number and an offset.
 #[derive(Clone, Copy)]
 struct Case {
     place: usize,
     byte: u8,
     length: usize,
-    told: (u32, usize),
+    told: Result<(), (u32, usize)>,
 }
 
 static CASES: [Case; 14] = [
@@ -21,94 +21,87 @@ static CASES: [Case; 14] = [
         place: 0,
         byte: 1,
         length: 33,
-        told: (0, 0),
+        told: Ok(()),
     },
     Case {
         place: 0,
         byte: 2,
         length: 33,
-        told: (41, 0),
+        told: Err((41, 0)),
     },
     Case {
         place: 0,
         byte: 1,
         length: 3,
-        told: (41, 0),
+        told: Err((41, 0)),
     },
     Case {
         place: 1,
         byte: 10,
         length: 33,
-        told: (42, 0),
+        told: Err((42, 0)),
     },
     Case {
         place: 3,
         byte: 0,
         length: 33,
-        told: (42, 0),
+        told: Err((42, 0)),
     },
     Case {
         place: 3,
         byte: 33,
         length: 33,
-        told: (42, 0),
+        told: Err((42, 0)),
     },
     Case {
         place: 4,
         byte: 3,
         length: 33,
-        told: (43, 4),
+        told: Err((43, 4)),
     },
     Case {
         place: 0,
         byte: 1,
         length: 31,
-        told: (43, 25),
+        told: Err((43, 25)),
     },
     Case {
         place: 12,
         byte: 2,
         length: 33,
-        told: (44, 11),
+        told: Err((44, 11)),
     },
     Case {
         place: 13,
         byte: 1,
         length: 33,
-        told: (44, 11),
+        told: Err((44, 11)),
     },
     Case {
         place: 24,
         byte: 1,
         length: 33,
-        told: (44, 18),
+        told: Err((44, 18)),
     },
     Case {
         place: 32,
         byte: 4,
         length: 33,
-        told: (45, 32),
+        told: Err((45, 32)),
     },
     Case {
         place: 0,
         byte: 1,
         length: 32,
-        told: (45, 32),
+        told: Err((45, 32)),
     },
     Case {
         place: 0,
         byte: 1,
         length: 34,
-        told: (45, 33),
+        told: Err((45, 33)),
     },
 ];
-
-fn told(answer: Result<(), TableRefusal>) -> (u32, usize) {
-    match answer {
-        Ok(()) => (0, 0),
-        Err(refusal) => (refusal.fault.number(), refusal.offset),
-    }
-}
 
 #[test]
 fn each_refusal_at_its_offset(rt: HostRuntime) -> Result<(), Fail> {
@@ -117,10 +110,11 @@ fn each_refusal_at_its_offset(rt: HostRuntime) -> Result<(), Fail> {
         if let Some(byte) = bytes.get_mut(case.place) {
             *byte = case.byte;
         }
-        let Some(bytes) = bytes.get(0..case.length) else {
-            return Err(Fail::new("too long a case"));
-        };
-        assert_eq!(rt; told(examine(bytes)), case.told);
+        let bytes = bytes
+            .get(0..case.length)
+            .ok_or_else(|| Fail::new("too long a case"))?;
+        let told = examine(bytes).map_err(|refusal| (refusal.fault.number(), refusal.offset));
+        assert_eq!(rt; told, case.told);
     }
     Ok(())
 }

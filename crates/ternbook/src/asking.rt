@@ -1,10 +1,9 @@
 // The call that asks for a question of a certificate.
-use crate::files::{NO_SPAN, no_machine, refused};
-use crate::session::{Session, contents};
+use crate::session::Session;
+use crate::stop::Stop;
 use calls::{Answer, ClauseLine, Lengths};
 use certificate::Cursor;
 use checking::admit;
-use frames::Frames;
 use machine::Machine;
 use opening::{Claim, Opening, open};
 use questions::{TraceList, trace_question};
@@ -22,21 +21,15 @@ pub(crate) struct Asked<'a> {
     pub(crate) number: u32,
 }
 
+impl Asked<'_> {
+    // The place of the question among those of the certificate, from 0; there is none for number 0.
+    fn place(&self) -> Option<usize> {
+        (self.number as usize).checked_sub(1)
+    }
+}
+
 // More literals than any clause of a question has.
 const LONGEST: usize = 65_536;
-
-// The answers to a question.
-fn listed<'a>(clauses: usize) -> Answer<'a> {
-    Answer::Question { clauses }
-}
-
-fn no_questions<'a>() -> Answer<'a> {
-    Answer::NoQuestions
-}
-
-fn no_such_question<'a>() -> Answer<'a> {
-    Answer::NoSuchQuestion
-}
 
 // Claim and frames of a certificate, read into areas of the lent lengths.
 fn read_opening<M: Machine>(
@@ -55,135 +48,84 @@ fn read_opening<M: Machine>(
         spans.len(),
     )?;
     let mut cursor = Cursor::new(bytes);
-    let opening = open(machine, &mut cursor, literals, spans)?;
-    Ok(opening)
+    Ok(open(machine, &mut cursor, literals, spans)?)
 }
 
-// Answers with a list of clauses, each on a line of its own.
-fn list_clauses<L: ClauseList>(
-    rt: &HostRuntime,
-    session: &mut Session,
-    line: &[u8],
-    list: &L,
-    used: Stack,
-    literals: &mut [u32],
-    spans: &[Span],
-) -> anyhow::Result<()> {
-    let clauses = list.count(literals, spans);
-    session.say(rt, line, &listed(clauses))?;
-    for number in 0..clauses {
-        let mut stack = used;
-        list.copy(number, &mut stack, literals, spans);
-        let clause = literals.get(used.used..stack.used).unwrap_or(&[]);
-        let text = ClauseLine {
-            number,
-            literals: clause,
-        };
-        println!(rt; "{text}")?;
-    }
-    Ok(())
-}
-
-// Answers with a question of the induction over so many rows.
-fn ask_induction<M: Machine>(
-    rt: &HostRuntime,
-    session: &mut Session,
-    machine: &M,
-    asked: Asked<'_>,
-    rows: u32,
-    number: usize,
-    literals: &mut [u32],
-    spans: &[Span],
-) -> anyhow::Result<()> {
-    let Some(question) = induction_question(rows as usize, number) else {
-        return session.say(rt, asked.line, &no_such_question());
-    };
-    let list = InductionList::new(machine, asked.rule as usize, question);
-    list_clauses(
-        rt,
-        session,
-        asked.line,
-        &list,
-        Stack { used: 0 },
-        literals,
-        spans,
-    )
-}
-
-// Answers with a question of the trace of these frames.
-fn ask_trace<M: Machine>(
-    rt: &HostRuntime,
-    session: &mut Session,
-    machine: &M,
-    asked: Asked<'_>,
-    frames: &Frames,
-    number: usize,
-    literals: &mut [u32],
-    spans: &[Span],
-) -> anyhow::Result<()> {
-    let Some(question) = trace_question(frames, number) else {
-        return session.say(rt, asked.line, &no_such_question());
-    };
-    let list = TraceList::new(machine, frames, asked.rule as usize, question);
-    list_clauses(
-        rt,
-        session,
-        asked.line,
-        &list,
-        frames.literals(),
-        literals,
-        spans,
-    )
-}
-
-// Answers with the question that is asked for, of the certificate that a file has.
-pub(crate) fn ask<M: Machine>(
-    rt: &HostRuntime,
-    session: &mut Session,
-    machine: &M,
-    asked: Asked<'_>,
-) -> anyhow::Result<()> {
-    if !session.open {
-        return session.say(rt, asked.line, &no_machine());
-    }
-    let bytes = match contents(rt, asked.file) {
-        Ok(bytes) => bytes,
-        Err(answer) => return session.say(rt, asked.line, &answer),
-    };
-    let lengths = session.lengths;
-    let lent = lengths.literals as usize;
-    let mut area = vec![in rt.alloc(); 0u32; lent + LONGEST]?;
-    let mut places = vec![in rt.alloc(); NO_SPAN; lengths.places as usize]?;
-    let (literals, spans) = (area.as_mut_slice(), places.as_mut_slice());
-    let Some(lent) = literals.get_mut(0..lent) else {
-        return Ok(());
-    };
-    let opening = match read_opening(machine, asked.rule, &bytes, lengths, lent, spans) {
-        Ok(opening) => opening,
-        Err(refusal) => return session.say(rt, asked.line, &refused(refusal)),
-    };
-    if let Claim::Counterexample = opening.claim {
-        return session.say(rt, asked.line, &no_questions());
-    }
-    let Some(number) = (asked.number as usize).checked_sub(1) else {
-        return session.say(rt, asked.line, &no_such_question());
-    };
-    match opening.claim {
-        Claim::Trace => {
-            let frames = opening.frames;
-            ask_trace(
-                rt, session, machine, asked, &frames, number, literals, spans,
-            )
+impl Session<'_> {
+    // Answers with a list of clauses, each on a line of its own.
+    fn list_clauses<L: ClauseList>(
+        &mut self,
+        line: &[u8],
+        list: &L,
+        used: Stack,
+        literals: &mut [u32],
+        spans: &[Span],
+    ) -> anyhow::Result<()> {
+        let clauses = list.count(literals, spans);
+        self.say(line, &Answer::Question { clauses })?;
+        for number in 0..clauses {
+            let mut stack = used;
+            // never refused: behind the lent area there is room for the longest clause
+            let _ = list.copy(number, &mut stack, literals, spans);
+            let text = ClauseLine {
+                number,
+                literals: literals.get(used.used..stack.used).unwrap_or(&[]),
+            };
+            println!(self.rt; "{text}")?;
         }
-        _ => ask_induction(
-            rt,
-            session,
+        Ok(())
+    }
+
+    // Answers with the question that is asked for, of an opening that was read.
+    fn list_question<'a, M: Machine>(
+        &mut self,
+        machine: &M,
+        asked: Asked<'a>,
+        opening: &Opening,
+        literals: &mut [u32],
+        spans: &[Span],
+    ) -> Result<(), Stop<'a>> {
+        let (line, rule, place) = (asked.line, asked.rule as usize, asked.place());
+        match opening.claim {
+            Claim::Trace => {
+                let question = place
+                    .and_then(|place| trace_question(&opening.frames, place))
+                    .ok_or(Answer::NoSuchQuestion)?;
+                let list = TraceList::new(machine, &opening.frames, rule, question);
+                self.list_clauses(line, &list, opening.frames.literals(), literals, spans)?;
+            }
+            Claim::Induction => {
+                let question = place
+                    .and_then(|place| induction_question(opening.size as usize, place))
+                    .ok_or(Answer::NoSuchQuestion)?;
+                let list = InductionList::new(machine, rule, question);
+                self.list_clauses(line, &list, Stack::default(), literals, spans)?;
+            }
+            Claim::Counterexample => return Err(Answer::NoQuestions.into()),
+        }
+        Ok(())
+    }
+
+    // Answers with the question that is asked for, of the certificate that a file has.
+    pub(crate) fn ask<'a, M: Machine>(
+        &mut self,
+        machine: &M,
+        asked: Asked<'a>,
+    ) -> Result<(), Stop<'a>> {
+        let bytes = self.contents(asked.file)?;
+        let (heap, lengths) = (self.rt.alloc(), self.lengths);
+        let lent = lengths.literals as usize;
+        let mut area = vec![in heap; 0u32; lent + LONGEST]?;
+        let mut places = vec![in heap; Span::default(); lengths.places as usize]?;
+        let (literals, spans) = (area.as_mut_slice(), places.as_mut_slice());
+        let opening = read_opening(
             machine,
-            asked,
-            opening.size,
-            number,
-            literals,
+            asked.rule,
+            &bytes,
+            lengths,
+            &mut literals[..lent],
             spans,
-        ),
+        )?;
+        self.list_question(machine, asked, &opening, literals, spans)
     }
 }

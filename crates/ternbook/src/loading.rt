@@ -1,7 +1,6 @@
 // Lines that open a machine.
-use crate::files::refused;
 use crate::serving::{serve, serve_closed};
-use crate::session::{Kind, Load, Session, contents};
+use crate::session::{Kind, Load, Session};
 use calls::{Answer, Counts, Lengths, Lines};
 use circuit::Circuit;
 use circuit_text::read;
@@ -40,77 +39,71 @@ fn read_circuit<'c>(
 
 // Answers that a machine is open, and carries out the lines after it.
 fn serve_opened<'a, M: Machine>(
-    rt: &HostRuntime,
+    session: &mut Session<'_>,
     lines: &mut Lines<'a>,
-    session: &mut Session,
     line: &[u8],
     machine: &M,
 ) -> anyhow::Result<Option<Load<'a>>> {
-    session.open = true;
     session.lengths = Lengths {
         bytes: machine.variables() as u32,
         literals: LITERALS,
         places: PLACES,
     };
-    session.say(rt, line, &opened(machine))?;
-    serve(rt, lines, session, machine)
+    session.say(line, &opened(machine))?;
+    serve(session, lines, Some(machine))
 }
 
 // Answers that no machine is open, and carries out the lines after it.
 fn serve_refused<'a>(
-    rt: &HostRuntime,
+    session: &mut Session<'_>,
     lines: &mut Lines<'a>,
-    session: &mut Session,
     line: &[u8],
     answer: &Answer<'_>,
 ) -> anyhow::Result<Option<Load<'a>>> {
-    session.say(rt, line, answer)?;
-    serve_closed(rt, lines, session)
+    session.say(line, answer)?;
+    serve_closed(session, lines)
 }
 
 // Opens the circuit that a text has.
 fn open_circuit<'a>(
-    rt: &HostRuntime,
+    session: &mut Session<'_>,
     lines: &mut Lines<'a>,
-    session: &mut Session,
     line: &[u8],
     text: &[u8],
 ) -> anyhow::Result<Option<Load<'a>>> {
-    let mut area = vec![in rt.alloc(); 0u32; CIRCUIT_NUMBERS]?;
+    let mut area = vec![in session.rt.alloc(); 0u32; CIRCUIT_NUMBERS]?;
     let mut circuit = circuit::smallest();
     match read_circuit(&mut circuit, text, area.as_mut_slice()) {
-        Ok(()) => serve_opened(rt, lines, session, line, &circuit),
-        Err(refusal) => serve_refused(rt, lines, session, line, &refused(refusal)),
+        Ok(()) => serve_opened(session, lines, line, &circuit),
+        Err(refusal) => serve_refused(session, lines, line, &refusal.into()),
     }
 }
 
 // Opens the step table that bytes are.
 fn open_table<'a>(
-    rt: &HostRuntime,
+    session: &mut Session<'_>,
     lines: &mut Lines<'a>,
-    session: &mut Session,
     line: &[u8],
     bytes: &[u8],
 ) -> anyhow::Result<Option<Load<'a>>> {
     let mut table = step_table::smallest();
     match table.read(bytes) {
-        Ok(()) => serve_opened(rt, lines, session, line, &table),
-        Err(refusal) => serve_refused(rt, lines, session, line, &refused(Refusal::Table(refusal))),
+        Ok(()) => serve_opened(session, lines, line, &table),
+        Err(refusal) => serve_refused(session, lines, line, &Refusal::from(refusal).into()),
     }
 }
 
 // Opens the machine that a line names, and carries out the lines after it.
 pub(crate) fn load<'a>(
-    rt: &HostRuntime,
+    session: &mut Session<'_>,
     lines: &mut Lines<'a>,
-    session: &mut Session,
     load: Load<'a>,
 ) -> anyhow::Result<Option<Load<'a>>> {
-    match contents(rt, load.file) {
+    match session.contents(load.file) {
         Ok(bytes) => match load.kind {
-            Kind::Circuit => open_circuit(rt, lines, session, load.line, &bytes),
-            Kind::Table => open_table(rt, lines, session, load.line, &bytes),
+            Kind::Circuit => open_circuit(session, lines, load.line, &bytes),
+            Kind::Table => open_table(session, lines, load.line, &bytes),
         },
-        Err(answer) => serve_refused(rt, lines, session, load.line, &answer),
+        Err(answer) => serve_refused(session, lines, load.line, &answer),
     }
 }

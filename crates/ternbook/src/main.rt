@@ -15,27 +15,27 @@ mod files;
 mod loading;
 mod serving;
 mod session;
+mod stop;
 
 // Carries out every line of a text; false where one could not be carried out.
 fn carry_out(rt: &HostRuntime, text: &[u8]) -> anyhow::Result<bool> {
-    let lengths = Lengths {
-        bytes: 0,
-        literals: LITERALS,
-        places: PLACES,
-    };
     let mut session = Session {
-        lengths,
-        open: false,
+        rt,
+        lengths: Lengths {
+            bytes: 0,
+            literals: LITERALS,
+            places: PLACES,
+        },
         all_carried_out: true,
     };
     let mut lines = Lines::new(text);
-    let mut next = serve_closed(rt, &mut lines, &mut session)?;
+    let mut next = serve_closed(&mut session, &mut lines)?;
     // a line takes a byte at least, so there are no more loads than bytes
     for _ in 0..text.len() {
         let Some(wanted) = next else {
             break;
         };
-        next = load(rt, &mut lines, &mut session, wanted)?;
+        next = load(&mut session, &mut lines, wanted)?;
     }
     Ok(session.all_carried_out)
 }

@@ -18,39 +18,26 @@ pub(crate) struct Load<'a> {
     pub(crate) file: &'a [u8],
 }
 
-// What the lines so far have left.
-#[derive(Clone, Copy)]
-pub(crate) struct Session {
+// The runtime, and what the lines so far have left.
+#[derive(Drop)]
+pub(crate) struct Session<'r> {
+    pub(crate) rt: &'r HostRuntime,
     pub(crate) lengths: Lengths,
-    // whether a machine is open
-    pub(crate) open: bool,
     pub(crate) all_carried_out: bool,
 }
 
-impl Session {
+impl Session<'_> {
     // Prints a line and its answer.
-    pub(crate) fn say(
-        &mut self,
-        rt: &HostRuntime,
-        line: &[u8],
-        answer: &Answer<'_>,
-    ) -> anyhow::Result<()> {
-        if !answer.carried_out() {
-            self.all_carried_out = false;
-        }
-        rt.stdout().write_all(line)?;
-        println!(rt; " -> {answer}")?;
+    pub(crate) fn say(&mut self, line: &[u8], answer: &Answer<'_>) -> anyhow::Result<()> {
+        self.all_carried_out &= answer.carried_out();
+        self.rt.stdout().write_all(line)?;
+        println!(self.rt; " -> {answer}")?;
         Ok(())
     }
-}
 
-// The bytes of a file, or the answer that it cannot be read.
-pub(crate) fn contents<'a>(rt: &HostRuntime, file: &'a [u8]) -> Result<Vec<u8>, Answer<'a>> {
-    let Ok(name) = std::str::from_utf8(file) else {
-        return Err(Answer::NotUnderstood);
-    };
-    match fs::read(rt, name) {
-        Ok(bytes) => Ok(bytes),
-        Err(_) => Err(Answer::CannotRead(name)),
+    // The bytes of a file, or the answer that it cannot be read.
+    pub(crate) fn contents<'a>(&self, file: &'a [u8]) -> Result<Vec<u8>, Answer<'a>> {
+        let name = std::str::from_utf8(file).map_err(|_| Answer::NotUnderstood)?;
+        fs::read(self.rt, name).map_err(|_| Answer::CannotRead(name))
     }
 }

@@ -1,29 +1,13 @@
 -- Clauses that are made literal by literal, each moved to a frame.
-use Rattle.std.proofs.Common.{◌≡◌, ℕ, suc, ◌+◌, ◌*◌, ◌<◌, ◌≤◌, Bool, true, cond, ltb, List, [], ◌∷◌, ◌++◌, map, length, get_or, take, Some, Option, sym, ap, ◌∙◌, subst, add-one, arith}
-use Rattle.std.proofs.lemmas.List.{length-map, length-take, map_more}
-use Rattle.std.proofs.lemmas.Bool.{lt-ltb}
+use Rattle.std.proofs.Common.{◌≡◌, ℕ, suc, ◌+◌, ◌*◌, ◌<◌, List, [], ◌∷◌, length, get_or, Some, Option, sym, ap, ◌∙◌, subst, add-one, arith}
 use Rattle.machine.specs.Lists.{entry}
 use Rattle.machine.specs.Meaning.{Meaning, Lawful}
 use Rattle.question_theory.specs.Unrolling.{moved, literal_of_state}
 use Rattle.unrolling.proofs.Answered.{got}
 
-both : {p q : List ℕ} {x y : ℕ} → p ≡ q → x ≡ y → p ++ x ∷ [] ≡ q ++ y ∷ []
-both e f = cc
-
--- a clause of at most 16 literals has room for its next one
-pub one_more : (f : ℕ → ℕ) (xs : List ℕ) (i : ℕ) (old new : List ℕ) (r : Bool) (x : ℕ) → i < length xs → length xs ≤ 16 →
-    old ≡ map f (take i xs) → r ≡ ltb (length old) 16 → x ≡ f (get_or xs i 0) → new ≡ old ++ cond r (x ∷ []) [] → new ≡ map f (take (i + 1) xs)
-one_more f xs i old new r x l few e room is pushed =
-    let size : length old ≡ length (take i xs) = ap length e ∙ length-map (take i xs) f in
-    let free : r ≡ true = room ∙ lt-ltb (length old) 16 (omega (arith, length-take i xs)) in
-    pushed ∙ ap (λ (b : Bool). old ++ cond b (x ∷ []) []) free ∙ both e is ∙ sym (map_more f xs i 0 l)
-
 -- the literals of a clause that the machine answered
 pub literal_low : (m : Meaning) → Lawful m → (n k : ℕ) (xs : List ℕ) → n < length m.clauses → xs ≡ get_or m.clauses n [] → k < length xs → get_or xs k 0 < 2 * m.variables
 literal_low m law n k xs h e l = subst (λ (ys : List ℕ). get_or ys k 0 < 2 * m.variables) (sym e) (law.clause_low n k h (subst (λ (ys : List ℕ). k < length ys) e l))
-
-pub few_literals : (m : Meaning) → Lawful m → (n : ℕ) (xs : List ℕ) → n < length m.clauses → xs ≡ get_or m.clauses n [] → length xs ≤ 16
-few_literals m law n xs h e = subst (λ (ys : List ℕ). length ys ≤ 16) (sym e) (law.clause_short n h)
 
 -- the literals of a tie
 pub next_moved : (m : Meaning) → Lawful m → (t i : ℕ) → i < m.state_bits → (r : Option ℕ) (x from : ℕ) → r ≡ entry m.next i → r ≡ Some x → from ≡ moved m t x →

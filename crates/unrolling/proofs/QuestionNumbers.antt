@@ -1,5 +1,5 @@
 -- The clause of an induction's question that a number stands for.
-use Rattle.std.proofs.Common.{◌≡◌, ℕ, ◌+◌, ◌-◌, ◌<◌, ◌≤◌, List, [], ◌∷◌, length, get_or, Some, None, Option, sym, ◌∙◌, arith}
+use Rattle.std.proofs.Common.{◌≡◌, ℕ, ◌+◌, ◌<◌, List, [], ◌∷◌, length, get_or, Some, None, Option, sym, ◌∙◌, arith}
 use Rattle.machine.specs.Lists.{entry}
 use Rattle.machine.specs.Meaning.{Meaning, Lawful}
 use Rattle.machine.proofs.Entries.{entry_at, entry_past}
@@ -29,25 +29,19 @@ module _ (m : Meaning) (law : Lawful m) (o : ℕ) where
   asked_broken Base n k e = (base_in_order m law o n).broken k e
   asked_broken Last n k e = (last_in_order m law o n).broken k e
 
--- clause k, where u clauses are of the unrolling and a are assumed
-module _ (m : Meaning) (law : Lawful m) (o : ℕ) (q : Kind) (n k u : ℕ) (e : u ≡ unroll_size m n) where
-  pub of_unrolling : (r : Option (List ℕ)) → k < u → r ≡ entry (unroll m n) k → r ≡ entry (asked_as m o q n) k
-  of_unrolling r h is =
-      let low : k < unroll_size m n = omega arith in
-      is ∙ entry_at (unroll m n) k [] (omega (arith, (unroll_in_order m law n).count))
-      ∙ found (asked_as m o q n) k (get_or (unroll m n) k []) (omega (arith, asked_count m law o q n)) (sym (asked_unrolled m law o q n k low))
+-- clause k of the unrolling
+pub of_unrolling : (m : Meaning) → Lawful m → (o : ℕ) (q : Kind) (n k : ℕ) (r : Option (List ℕ)) → k < unroll_size m n → r ≡ entry (unroll m n) k → r ≡ entry (asked_as m o q n) k
+of_unrolling m law o q n k r h is =
+    is ∙ entry_at (unroll m n) k [] (omega (arith, (unroll_in_order m law n).count))
+    ∙ found (asked_as m o q n) k (get_or (unroll m n) k []) (omega (arith, asked_count m law o q n)) (sym (asked_unrolled m law o q n k h))
 
-  module _ (past : u ≤ k) where
-    pub of_assumptions : (xs : List ℕ) → k - u < assumptions m q n → xs ≡ assumption_at m o q (k - u) → ◌≡◌ {A = Option (List ℕ)} (Some xs) (entry (asked_as m o q n) k)
-    of_assumptions xs h is =
-        let place : k ≡ unroll_size m n + (k - u) = omega arith in
-        found (asked_as m o q n) k xs (omega (arith, asked_count m law o q n)) (is ∙ sym (asked_assumed m law o q n k (k - u) place h))
+-- clause k is clause j behind the unrolling
+module _ (m : Meaning) (law : Lawful m) (o : ℕ) (q : Kind) (n k j : ℕ) (at : k ≡ unroll_size m n + j) where
+  pub of_assumptions : (xs : List ℕ) → j < assumptions m q n → xs ≡ assumption_at m o q j → ◌≡◌ {A = Option (List ℕ)} (Some xs) (entry (asked_as m o q n) k)
+  of_assumptions xs h is = found (asked_as m o q n) k xs (omega (arith, asked_count m law o q n)) (is ∙ sym (asked_assumed m law o q n k j at h))
 
-    module _ (a : ℕ) (f : a ≡ assumptions m q n) where
-      pub of_rule : (xs : List ℕ) → a ≤ k - u → k - u ≤ a → xs ≡ moved m n (get_or m.rule o 0) ∷ [] → ◌≡◌ {A = Option (List ℕ)} (Some xs) (entry (asked_as m o q n) k)
-      of_rule xs g h is =
-          let place : k ≡ unroll_size m n + assumptions m q n = omega arith in
-          found (asked_as m o q n) k xs (omega (arith, asked_count m law o q n)) (is ∙ sym (asked_broken m law o q n k place))
+  pub of_rule : (xs : List ℕ) → j ≡ assumptions m q n → xs ≡ moved m n (get_or m.rule o 0) ∷ [] → ◌≡◌ {A = Option (List ℕ)} (Some xs) (entry (asked_as m o q n) k)
+  of_rule xs h is = found (asked_as m o q n) k xs (omega (arith, asked_count m law o q n)) (is ∙ sym (asked_broken m law o q n k (omega arith)))
 
-      pub of_none : a < k - u → ◌≡◌ {A = Option (List ℕ)} None (entry (asked_as m o q n) k)
-      of_none h = sym (entry_past (asked_as m o q n) k (omega (arith, asked_count m law o q n)))
+  pub of_none : assumptions m q n < j → ◌≡◌ {A = Option (List ℕ)} None (entry (asked_as m o q n) k)
+  of_none h = sym (entry_past (asked_as m o q n) k (omega (arith, asked_count m law o q n)))

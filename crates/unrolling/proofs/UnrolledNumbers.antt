@@ -1,6 +1,5 @@
 -- The clause of an unrolling that a number stands for, by the numbers that the machine answered.
-use Rattle.std.proofs.Common.{◌≡◌, ℕ, suc, ◌+◌, ◌-◌, ◌*◌, ◌/◌, ◌%◌, ◌<◌, ◌≤◌, ◌≢◌, List, [], ◌∷◌, map, length, get_or, Some, None, Option, sym, ap, ◌∙◌, subst, ⊎_elim, add-one, arith, rules}
-use Rattle.std.proofs.lemmas.Nat.{div_below, mod_below}
+use Rattle.std.proofs.Common.{◌≡◌, ℕ, suc, ◌+◌, ◌*◌, ◌/◌, ◌%◌, ◌<◌, ◌≤◌, ◌≢◌, List, [], ◌∷◌, map, length, get_or, Some, None, Option, sym, ap, ◌∙◌, subst, ⊎_elim, add-one, arith}
 use Rattle.std.proofs.lemmas.Bool.{cases_eq, eq-eqb, ne_eqb}
 use Rattle.resolution.specs.Clauses.{denial}
 use Rattle.machine.specs.Lists.{entry}
@@ -11,22 +10,12 @@ use Rattle.unrolling.specs.Ties.{tie_at}
 use Rattle.question_theory.proofs.UnrollOrder.{unroll_in_order}
 use Rattle.question_theory.proofs.UnrollNumbers.{machine_by, only_if_by, true_if_by}
 
--- nothing is below a product with 0
-some : (k a b : ℕ) → k < a * b → 0 < b
-some k a b h = search rules
-
 -- the clause of a list that stands at a number
 pub found : (cs : List (List ℕ)) (k : ℕ) (xs : List ℕ) → k < length cs → xs ≡ get_or cs k [] → ◌≡◌ {A = Option (List ℕ)} (Some xs) (entry cs k)
 found cs k xs h e = ap (λ (ys : List ℕ). Some ys) e ∙ sym (entry_at cs k [] h)
 
 -- clause k of the rows, where each row has C clauses
 module _ (m : Meaning) (law : Lawful m) (n k C : ℕ) (e : C ≡ length m.clauses) (h : k < (n + 1) * C) where
-  pub row_low : k / C ≤ n
-  row_low = let p = div_below k C (n + 1) (some k (n + 1) C h) h in omega arith
-
-  pub clause_known : k % C < length m.clauses
-  clause_known = omega (arith, mod_below k C (some k (n + 1) C h))
-
   below : k < suc n * length m.clauses
   below = subst (λ (x : ℕ). k < x * length m.clauses) (add-one n) (subst (λ (x : ℕ). k < (n + 1) * x) e h)
 
@@ -56,32 +45,20 @@ tie_by m law n k r e h =
     (λ (p : r % (2 * m.state_bits) % 2 ≢ 0). let q : r % (2 * m.state_bits) % 2 ≡ 1 = omega arith in true_if_by m law n k r e h q ∙ sym (tie_odd m t j q))
     (cases_eq (r % (2 * m.state_bits) % 2) 0)
 
--- clause k behind the rows, where S is the number of state bits
-module _ (m : Meaning) (law : Lawful m) (n k C S : ℕ) (e : C ≡ length m.clauses) (f : S ≡ m.state_bits) (past : (n + 1) * C ≤ k) where
-  rows_are : (n + 1) * C ≡ suc n * length m.clauses
-  rows_are = ap (λ (x : ℕ). (n + 1) * x) e ∙ ap (λ (x : ℕ). x * length m.clauses) (add-one n)
+-- clause k is clause r behind the rows, where S is the number of state bits
+module _ (m : Meaning) (law : Lawful m) (n k C S r : ℕ) (e : C ≡ length m.clauses) (f : S ≡ m.state_bits) (at : k ≡ (n + 1) * C + r) where
+  place : k ≡ suc n * length m.clauses + r
+  place = at ∙ ap (λ (x : ℕ). (n + 1) * x + r) e ∙ ap (λ (x : ℕ). x * length m.clauses + r) (add-one n)
 
   ties_are : n * (2 * S) ≡ n * (2 * m.state_bits)
   ties_are = ap (λ (x : ℕ). n * (2 * x)) f
 
   -- there is none
-  pub no_clause : n * (2 * S) ≤ k - (n + 1) * C → ◌≡◌ {A = Option (List ℕ)} None (entry (unroll m n) k)
-  no_clause h = sym (entry_past (unroll m n) k (omega (arith, rows_are, ties_are, (unroll_in_order m law n).count)))
+  pub no_clause : n * (2 * S) ≤ r → ◌≡◌ {A = Option (List ℕ)} None (entry (unroll m n) k)
+  no_clause h = sym (entry_past (unroll m n) k (omega (arith, place, ties_are, (unroll_in_order m law n).count)))
 
-  module _ (h : k - (n + 1) * C < n * (2 * S)) where
-    pub frame_low : (k - (n + 1) * C) / (2 * S) < n
-    frame_low = div_below (k - (n + 1) * C) (2 * S) n (some (k - (n + 1) * C) n (2 * S) h) h
-
-    pub bit_known : (k - (n + 1) * C) % (2 * S) / 2 < m.state_bits
-    bit_known = omega (arith, mod_below (k - (n + 1) * C) (2 * S) (some (k - (n + 1) * C) n (2 * S) h))
-
-    place : k ≡ suc n * length m.clauses + (k - (n + 1) * C)
-    place = omega (arith, rows_are)
-
-    low : k - (n + 1) * C < n * (2 * m.state_bits)
-    low = omega (arith, ties_are)
-
-    pub tie_clause_is : (xs : List ℕ) → xs ≡ tie_at m ((k - (n + 1) * C) / (2 * S)) ((k - (n + 1) * C) % (2 * S)) → ◌≡◌ {A = Option (List ℕ)} (Some xs) (entry (unroll m n) k)
-    tie_clause_is xs is =
-        found (unroll m n) k xs (omega (arith, place, low, (unroll_in_order m law n).count))
-        (is ∙ ap (λ (x : ℕ). tie_at m ((k - (n + 1) * C) / (2 * x)) ((k - (n + 1) * C) % (2 * x))) f ∙ sym (tie_by m law n k (k - (n + 1) * C) place low))
+  pub tie_clause_is : (xs : List ℕ) → r < n * (2 * S) → xs ≡ tie_at m (r / (2 * S)) (r % (2 * S)) → ◌≡◌ {A = Option (List ℕ)} (Some xs) (entry (unroll m n) k)
+  tie_clause_is xs h is =
+      let low : r < n * (2 * m.state_bits) = omega (arith, ties_are) in
+      found (unroll m n) k xs (omega (arith, place, (unroll_in_order m law n).count))
+      (is ∙ ap (λ (x : ℕ). tie_at m (r / (2 * x)) (r % (2 * x))) f ∙ sym (tie_by m law n k r place low))

@@ -10,6 +10,7 @@ use Rattle.unrolling.specs.declared.question.Kind.{Kind}
 use Rattle.unrolling.specs.declared.question.Kind.TheVariants.{Base, Last}
 use Rattle.unrolling.specs.declared.question.InductionQuestion.{InductionQuestion}
 
+-- the clauses of a question of a kind about n + 1 rows
 abbrev pub asked_as : Meaning → ℕ → Kind → ℕ → List (List ℕ)
 asked_as m o Base n = base_question m o n
 asked_as m o Last n = last_question m o n

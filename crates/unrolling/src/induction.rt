@@ -11,10 +11,12 @@ ghost use Rattle.unrolling.specs.Asked.{asked, assumptions, assumption_at, Decid
 
 use super::pushing::{push_clause, unit};
 use super::question::{InductionQuestion, Kind};
-use super::rows::{count_unrolled, move_literal, state_literal, unrolled_clause};
+use super::rows::{Unrolling, move_literal, state_literal};
 use machine::{Clause, Machine};
+use refusal::RefutationFault;
 use resolution::{ClauseList, deny};
 use stack::{Span, Stack};
+use std::cmp::Ordering;
 
 // How many questions the induction over k rows has; k above 64 is taken as 64.
 pub fn induction_questions(k: usize) -> usize
@@ -29,89 +31,17 @@ pub fn induction_question(k: usize, number: usize) -> Option<InductionQuestion>
     ensures { (m : Meaning) (o : ℕ) → option_map (asked m o) result ≡ entry (questions_of_induction m o (min k 64)) number }
 {
     let depth = k.min(64);
-    if number < depth {
-        return Some(InductionQuestion {
+    match number.cmp(&depth) {
+        Ordering::Less => Some(InductionQuestion {
             kind: Kind::Base,
             depth: number,
-        });
+        }),
+        Ordering::Equal => Some(InductionQuestion {
+            kind: Kind::Last,
+            depth,
+        }),
+        Ordering::Greater => None,
     }
-    if number > depth {
-        return None;
-    }
-    Some(InductionQuestion {
-        kind: Kind::Last,
-        depth,
-    })
-}
-
-// The literal that says that the rule is broken in a row; for a rule that is not there, literal 0 of the row.
-fn broken_literal<M: Machine>(machine: &M, rule: usize, row: usize) -> u32
-    requires { row ≤ 64 }
-    ensures { result ≡ moved (M.meaning machine.now) row (slice_index (M.meaning machine.now).rule rule) }
-{
-    move_literal(machine, row, machine.rule_literal(rule).unwrap_or(0))
-}
-
-// That a state bit is as in the start.
-fn start_unit<M: Machine>(machine: &M, bit: usize) -> Clause
-    requires { bit < (M.meaning machine.now).state_bits }
-    ensures { listed result ≡ bit_literal (M.meaning machine.now) bit (slice_index_or (M.meaning machine.now).start bit false) ∷ [] }
-{
-    let literal = state_literal(machine, bit);
-    if machine.start_bit(bit).unwrap() {
-        return unit(literal);
-    }
-    unit(deny(literal))
-}
-
-// How many units a question assumes.
-fn count_assumptions<M: Machine>(machine: &M, question: InductionQuestion) -> usize
-    ensures { result ≡ assumptions (M.meaning machine.now) question.kind question.depth }
-{
-    match question.kind {
-        Kind::Base => machine.state_bits(),
-        Kind::Last => question.depth,
-    }
-}
-
-// A unit that a question assumes: a bit of the start, or that a row before the last does not break the rule.
-fn assumption<M: Machine>(
-    machine: &M,
-    rule: usize,
-    question: InductionQuestion,
-    number: usize,
-) -> Clause
-    requires { number < assumptions (M.meaning machine.now) question.kind question.depth }
-    ensures { listed result ≡ assumption_at (M.meaning machine.now) rule question.kind number }
-{
-    match question.kind {
-        Kind::Base => start_unit(machine, number),
-        Kind::Last => unit(deny(broken_literal(machine, rule, number))),
-    }
-}
-
-// A clause of a question: first the unrolling's, then the units that it assumes, then that the last row breaks the rule.
-fn question_clause<M: Machine>(
-    machine: &M,
-    rule: usize,
-    question: InductionQuestion,
-    number: usize,
-) -> Option<Clause>
-    ensures { option_map listed result ≡ entry (asked (M.meaning machine.now) rule question) number }
-{
-    let unrolled = count_unrolled(machine, question.depth);
-    if number < unrolled {
-        return unrolled_clause(machine, question.depth, number);
-    }
-    let behind = number - unrolled;
-    let assumed = count_assumptions(machine, question);
-    if behind < assumed {
-        return Some(assumption(machine, rule, question, behind));
-    }
-    if behind > assumed {
-        return None;
-    }
-    Some(unit(broken_literal(machine, rule, question.depth)))
 }
 
 // The clauses of a question about a rule of a machine.
@@ -132,14 +62,17 @@ impl<'m, M: Machine> ClauseList for InductionList<'m, M> {
     ghost stands = { λ s ls ms ps qs h k. refl };
 
     fn count(&self, literals: &[u32], spans: &[Span]) -> usize {
-        count_unrolled(self.machine, self.question.depth)
-            + count_assumptions(self.machine, self.question)
-            + 1
+        self.rows().size() + self.count_assumptions() + 1
     }
 
-    fn copy(&self, number: usize, stack: &mut Stack, literals: &mut [u32], spans: &[Span]) -> bool {
-        let clause = question_clause(self.machine, self.rule, self.question, number);
-        push_clause(clause, stack, literals)
+    fn copy(
+        &self,
+        number: usize,
+        stack: &mut Stack,
+        literals: &mut [u32],
+        spans: &[Span],
+    ) -> Result<(), RefutationFault> {
+        push_clause(self.clause(number), stack, literals)
     }
 }
 
@@ -156,5 +89,71 @@ impl<'m, M: Machine> InductionList<'m, M> {
             rule,
             question,
         }
+    }
+
+    // The rows that the question is about.
+    fn rows(&self) -> Unrolling<'m, M>
+        ensures machine { result.machine.now ≡ self.now.machine.now }
+        ensures depth { result.depth ≡ self.now.question.depth }
+    {
+        Unrolling::new(self.machine, self.question.depth)
+    }
+
+    // A clause by its number: first the rows', then the units that are assumed, then that the last row breaks the rule.
+    fn clause(&self, number: usize) -> Option<Clause>
+        ensures { option_map listed result ≡ entry (asked (M.meaning self.now.machine.now) self.now.rule self.now.question) number }
+    {
+        let rows = self.rows();
+        let Some(behind) = number.checked_sub(rows.size()) else {
+            return rows.clause(number);
+        };
+        match behind.cmp(&self.count_assumptions()) {
+            Ordering::Less => Some(self.assumption(behind)),
+            Ordering::Equal => Some(unit(self.broken_literal(self.question.depth))),
+            Ordering::Greater => None,
+        }
+    }
+
+    // How many units the question assumes.
+    fn count_assumptions(&self) -> usize
+        ensures { result ≡ assumptions (M.meaning self.now.machine.now) self.now.question.kind self.now.question.depth }
+    {
+        match self.question.kind {
+            Kind::Base => self.machine.state_bits(),
+            Kind::Last => self.question.depth,
+        }
+    }
+
+    // A unit that the question assumes: a bit of the start, or that a row before the last does not break the rule.
+    fn assumption(&self, number: usize) -> Clause
+        requires { number < assumptions (M.meaning self.now.machine.now) self.now.question.kind self.now.question.depth }
+        ensures { listed result ≡ assumption_at (M.meaning self.now.machine.now) self.now.rule self.now.question.kind number }
+    {
+        match self.question.kind {
+            Kind::Base => self.start_unit(number),
+            Kind::Last => unit(deny(self.broken_literal(number))),
+        }
+    }
+
+    // That a state bit is as in the start.
+    fn start_unit(&self, bit: usize) -> Clause
+        requires { bit < (M.meaning self.now.machine.now).state_bits }
+        ensures { listed result ≡ bit_literal (M.meaning self.now.machine.now) bit (slice_index_or (M.meaning self.now.machine.now).start bit false) ∷ [] }
+    {
+        let literal = state_literal(self.machine, bit);
+        if self.machine.start_bit(bit).unwrap() {
+            unit(literal)
+        } else {
+            unit(deny(literal))
+        }
+    }
+
+    // The literal that says that the rule is broken in a row; for a rule that is not there, literal 0 of the row.
+    fn broken_literal(&self, row: usize) -> u32
+        requires { row ≤ 64 }
+        ensures { result ≡ moved (M.meaning self.now.machine.now) row (slice_index (M.meaning self.now.machine.now).rule self.now.rule) }
+    {
+        let broken = self.machine.rule_literal(self.rule).unwrap_or(0);
+        move_literal(self.machine, row, broken)
     }
 }

@@ -4,16 +4,20 @@ ghost use Rattle.machine.specs.Clauses.{listed};
 ghost use Rattle.unrolling.specs.Pushes.{PushedClause};
 
 use machine::Clause;
+use refusal::RefutationFault;
 use stack::Stack;
 
 // Pushes a clause whole, if there is one and it fits.
-pub(crate) fn push_clause(clause: Option<Clause>, stack: &mut Stack, literals: &mut [u32]) -> bool
+pub(crate) fn push_clause(
+    clause: Option<Clause>,
+    stack: &mut Stack,
+    literals: &mut [u32],
+) -> Result<(), RefutationFault>
     ensures { PushedClause clause stack.old.used stack.new.used literals.old literals.new result }
 {
-    match clause {
-        Some(clause) => stack.push_all(literals, clause.as_slice()),
-        None => false,
-    }
+    let clause = clause.ok_or(RefutationFault::NoClause)?;
+    stack.push_all(literals, clause.as_slice())?;
+    Ok(())
 }
 
 // The clause of one literal.

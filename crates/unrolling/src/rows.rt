@@ -9,6 +9,7 @@ ghost use Rattle.unrolling.specs.Ties.{tie_at};
 
 use super::pushing::{pair, push_clause};
 use machine::{Clause, Machine};
+use refusal::RefutationFault;
 use resolution::{ClauseList, deny};
 use stack::{Span, Stack};
 
@@ -29,65 +30,6 @@ pub(crate) fn state_literal<M: Machine>(machine: &M, bit: usize) -> u32
     (2 * (machine.inputs() + 1 + bit)) as u32
 }
 
-// A clause of the machine moved to a frame.
-fn move_clause<M: Machine>(machine: &M, frame: usize, number: usize) -> Clause
-    requires near { frame ≤ 64 }
-    requires known { number < length (M.meaning machine.now).clauses }
-    ensures { listed result ≡ map (moved (M.meaning machine.now) frame) (slice_index_or (M.meaning machine.now).clauses number []) }
-{
-    let clause = machine.clause(number).unwrap();
-    let mut there = Clause::empty();
-    for literal in clause.as_slice() {
-        there.push(move_literal(machine, frame, *literal));
-    }
-    there
-}
-
-// A clause that ties a frame to the next: a state bit there is true only if, or is true if, its next literal is.
-fn tie_clause<M: Machine>(machine: &M, frame: usize, number: usize) -> Clause
-    requires near { frame < 64 }
-    requires known { number / 2 < (M.meaning machine.now).state_bits }
-    ensures { listed result ≡ tie_at (M.meaning machine.now) frame number }
-{
-    let next = machine.next_literal(number / 2).unwrap();
-    let from = move_literal(machine, frame, next);
-    let to = move_literal(machine, frame + 1, state_literal(machine, number / 2));
-    if number % 2 == 0 {
-        return pair(from, deny(to));
-    }
-    pair(deny(from), to)
-}
-
-// How many clauses depth + 1 rows have.
-pub(crate) fn count_unrolled<M: Machine>(machine: &M, depth: usize) -> usize
-    requires { depth ≤ 64 }
-    ensures { result ≡ unroll_size (M.meaning machine.now) depth }
-{
-    (depth + 1) * machine.clauses() + depth * (2 * machine.state_bits())
-}
-
-// A clause of depth + 1 rows: first each row's, then the ties of each row to the next.
-pub(crate) fn unrolled_clause<M: Machine>(
-    machine: &M,
-    depth: usize,
-    number: usize,
-) -> Option<Clause>
-    requires { depth ≤ 64 }
-    ensures { option_map listed result ≡ entry (unroll (M.meaning machine.now) depth) number }
-{
-    let clauses = machine.clauses();
-    let rows = (depth + 1) * clauses;
-    if number < rows {
-        return Some(move_clause(machine, number / clauses, number % clauses));
-    }
-    let each = 2 * machine.state_bits();
-    let tie = number - rows;
-    if tie < depth * each {
-        return Some(tie_clause(machine, tie / each, tie % each));
-    }
-    None
-}
-
 // The clauses of depth + 1 rows of a machine that follow one another.
 #[derive(Drop)]
 pub struct Unrolling<'m, M: Machine> {
@@ -106,12 +48,17 @@ impl<'m, M: Machine> ClauseList for Unrolling<'m, M> {
     ghost stands = { λ s ls ms ps qs h k. refl };
 
     fn count(&self, literals: &[u32], spans: &[Span]) -> usize {
-        count_unrolled(self.machine, self.depth)
+        self.size()
     }
 
-    fn copy(&self, number: usize, stack: &mut Stack, literals: &mut [u32], spans: &[Span]) -> bool {
-        let clause = unrolled_clause(self.machine, self.depth, number);
-        push_clause(clause, stack, literals)
+    fn copy(
+        &self,
+        number: usize,
+        stack: &mut Stack,
+        literals: &mut [u32],
+        spans: &[Span],
+    ) -> Result<(), RefutationFault> {
+        push_clause(self.clause(number), stack, literals)
     }
 }
 
@@ -126,6 +73,59 @@ impl<'m, M: Machine> Unrolling<'m, M> {
         Unrolling {
             machine,
             depth: depth.min(64),
+        }
+    }
+
+    // How many clauses the rows have.
+    pub(crate) fn size(&self) -> usize
+        ensures { result ≡ unroll_size (M.meaning self.now.machine.now) self.now.depth }
+    {
+        (self.depth + 1) * self.machine.clauses() + self.depth * (2 * self.machine.state_bits())
+    }
+
+    // A clause of the rows by its number: first each row's, then the ties of each row to the next.
+    pub(crate) fn clause(&self, number: usize) -> Option<Clause>
+        ensures { option_map listed result ≡ entry (unroll (M.meaning self.now.machine.now) self.now.depth) number }
+    {
+        let clauses = self.machine.clauses();
+        let ties = 2 * self.machine.state_bits();
+        match number.checked_sub((self.depth + 1) * clauses) {
+            None => Some(self.row_clause(number / clauses, number % clauses)),
+            Some(tie) if tie < self.depth * ties => Some(self.tie_clause(tie / ties, tie % ties)),
+            Some(_) => None,
+        }
+    }
+
+    // A clause of the machine moved to a row.
+    fn row_clause(&self, row: usize, number: usize) -> Clause
+        requires near { row ≤ self.now.depth }
+        requires known { number < length (M.meaning self.now.machine.now).clauses }
+        ensures { listed result ≡ map (moved (M.meaning self.now.machine.now) row) (slice_index_or (M.meaning self.now.machine.now).clauses number []) }
+    {
+        let clause = self.machine.clause(number).unwrap();
+        let mut there = Clause::empty();
+        for literal in clause.as_slice() {
+            there
+                .push(move_literal(self.machine, row, *literal))
+                .unwrap();
+        }
+        there
+    }
+
+    // A clause that ties a row to the next: a state bit there is true only if, or is true if, its next literal is.
+    fn tie_clause(&self, row: usize, number: usize) -> Clause
+        requires near { row < self.now.depth }
+        requires known { number / 2 < (M.meaning self.now.machine.now).state_bits }
+        ensures { listed result ≡ tie_at (M.meaning self.now.machine.now) row number }
+    {
+        let bit = number / 2;
+        let next = self.machine.next_literal(bit).unwrap();
+        let from = move_literal(self.machine, row, next);
+        let to = move_literal(self.machine, row + 1, state_literal(self.machine, bit));
+        if number % 2 == 0 {
+            pair(from, deny(to))
+        } else {
+            pair(deny(from), to)
         }
     }
 }

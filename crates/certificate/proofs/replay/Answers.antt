@@ -4,11 +4,11 @@ use Rattle.certificate.specs.Counterexamples.{Shows}
 use Rattle.certificate.proofs.Showing.{shows, taken}
 use Rattle.certificate.proofs.replay.Goals as goal
 
-pub returns-in_err-records : goal.returns-in_err-records
-returns-in_err-records g c =
+pub returns-in_err-run : goal.returns-in_err-run
+returns-in_err-run g c =
     let m = g.M.Machine.meaning c.args.machine.now in
     let area = length c.args.row.now in
-    let is : c.from_residual-in_err-records.result ≡ replayed m c.args.rule c.args.bytes.now area = search rules in
+    let is : c.from_residual-in_err-run.result ≡ replayed m c.args.rule c.args.bytes.now area = search rules in
     record {
       is = is;
       cleared = search rules;
@@ -20,7 +20,7 @@ pub returns : goal.returns
 returns g c =
     let m = g.M.Machine.meaning c.args.machine.now in
     let area = length c.args.row.now in
-    let is : Ok c.in_ok-records.records ≡ replayed m c.args.rule c.args.bytes.now area = search rules in
+    let is : Ok c.in_ok-run.field-0 ≡ replayed m c.args.rule c.args.bytes.now area = search rules in
     record {
       is = is;
       cleared = search rules;

@@ -1,8 +1,10 @@
-use Rattle.std.proofs.Common.{◌≡◌, ℕ, ◌+◌, ◌<◌, List, length, Some, Ok, sym, refl, ap, ◌∙◌, arith}
-use Rattle.certificate.specs.Records.{read}
-use Rattle.certificate.proofs.Codes.{read_some, read_none, longer}
+use Rattle.std.proofs.Common.{◌≡◌, None, Ok, Err, refl, ◌∙◌, rules, of_calls, arith}
+use Rattle.refusal.specs.declared.faults.CertificateFault.{CertificateFault}
+use Rattle.refusal.specs.declared.faults.CertificateFault.TheVariants.{NoRecord}
+use Rattle.certificate.specs.declared.record.Record.TheVariants.{RefutationEnd}
 use Rattle.refuting.specs.Rooms.{room_of}
-use Rattle.refuting.proofs.Loop.{still, begins, out_none, out_stop, out_end, goes}
+use Rattle.certificate.proofs.Nexts.{came, none_came}
+use Rattle.refuting.proofs.Loop.{begins, out_none, out_stop, out_end, goes}
 use Rattle.refuting.proofs.run.Goals as goal
 
 pub loop-record-init : goal.loop-record-init
@@ -12,82 +14,60 @@ loop-record-init g c = (
   λ h. begins _ _ _ c.args.question c.args.cursor.now.offset c.args.cursor.now.rest.now c.args.refutation.now c.args.literals.now c.args.spans.now c.requires h,
 )
 
-pub returns-in_default : goal.returns-in_default
-returns-in_default g c =
+pub returns-in_err-record-clause-checked : goal.returns-in_err-record-clause-checked
+returns-in_err-record-clause-checked g c h =
     let l = c.loop-record in
-    let e = c.in_default.ensures in
-    let total : c.offset-offset.result + length l.cursor.rest.now ≡ c.args.cursor.now.offset + length c.args.cursor.now.rest.now = ap (λ (i : ℕ). i + length l.cursor.rest.now) c.offset-offset.ensures ∙ l.invariant.1 in
-    record {
-      checked = λ h. out_none (g.L.ClauseList.clauses c.args.list.now c.args.literals.now c.args.spans.now) (g.L.ClauseList.literal_mark c.args.list.now) (g.L.ClauseList.span_mark c.args.list.now)
-          (room_of c.args.refutation.now c.args.literals.now c.args.spans.now) c.args.question c.args.cursor.now.offset c.args.cursor.now.rest.now c.args.literals.now c.args.spans.now h
-          l.refutation l.literals l.spans l.cursor.rest.now c.offset-offset.result l.records total (l.invariant.2 h)
-          c.next.new.self.rest.now e.exact.0 (read_none l.cursor.rest.now e.value);
-      offset = e.offset ∙ l.invariant.1;
-      spent = tt;
-    }
+    let e = c.next.ensures in
+    let none : c.next.result ≡ None = search rules in
+    let is : c.from_residual.result ≡ Err (record { fault = NoRecord; offset = l.cursor.offset; question = c.args.question }) = search rules in
+    let n = none_came l.cursor.rest.now c.next.new.self.rest.now c.next.result e.value e.rest e.exact none in
+    rw is
+    (out_none (g.L.ClauseList.clauses c.args.list.now) (g.L.ClauseList.literal_mark c.args.list.now) (g.L.ClauseList.span_mark c.args.list.now) (g.L.ClauseList.stands c.args.list.now)
+    (room_of c.args.refutation.now c.args.literals.now c.args.spans.now) c.args.question c.args.cursor.now.offset c.args.cursor.now.rest.now c.args.literals.now c.args.spans.now h
+    l.refutation l.literals l.spans l.cursor.rest.now l.cursor.offset l.records l.invariant.1 (l.invariant.2 h) c.next.new.self.rest.now n.0 n.1)
+
+pub returns-in_err-map_err-clause-checked : goal.returns-in_err-map_err-clause-checked
+returns-in_err-map_err-clause-checked g c h =
+    let l = c.loop-record in
+    let e = c.next.ensures in
+    let stop : (f : CertificateFault) × (c.apply-applied.result ≡ Err f) × (c.from_residual-in_err-map_err.result ≡ Err (record { fault = f; offset = l.cursor.offset; question = c.args.question })) = search (rules, of_calls) in
+    let n = came l.cursor.rest.now c.next.new.self.rest.now c.next.result e.value e.rest e.exact c.in_ok-record.record c.in_ok-record.ensures.ok_part in
+    let q = l.invariant.2 h in
+    rw stop.2
+    (out_stop (g.L.ClauseList.clauses c.args.list.now) (g.L.ClauseList.literal_mark c.args.list.now) (g.L.ClauseList.span_mark c.args.list.now) (g.L.ClauseList.stands c.args.list.now)
+    (room_of c.args.refutation.now c.args.literals.now c.args.spans.now) c.args.question c.args.cursor.now.offset c.args.cursor.now.rest.now c.args.literals.now c.args.spans.now h
+    l.refutation l.literals l.spans l.cursor.rest.now l.cursor.offset l.records l.invariant.1 q
+    c.apply-applied.new.refutation c.apply-applied.new.literals c.apply-applied.new.spans c.in_ok-record.record c.next.new.self.rest.now n.is
+    stop.0 (rw (← stop.1) (c.apply-applied.ensures.moved q.stands)))
+
+pub returns-then-eq-clause-checked : goal.returns-then-eq-clause-checked
+returns-then-eq-clause-checked g c h =
+    let l = c.loop-record in
+    let e = c.next.ensures in
+    let went : c.apply-applied.result ≡ Ok tt = search (rules, of_calls) in
+    let ends : c.in_ok-record.record ≡ RefutationEnd = search rules in
+    let n = came l.cursor.rest.now c.next.new.self.rest.now c.next.result e.value e.rest e.exact c.in_ok-record.record c.in_ok-record.ensures.ok_part in
+    let q = l.invariant.2 h in
+    out_end (g.L.ClauseList.clauses c.args.list.now) (g.L.ClauseList.literal_mark c.args.list.now) (g.L.ClauseList.span_mark c.args.list.now) (g.L.ClauseList.stands c.args.list.now)
+    (room_of c.args.refutation.now c.args.literals.now c.args.spans.now) c.args.question c.args.cursor.now.offset c.args.cursor.now.rest.now c.args.literals.now c.args.spans.now h
+    l.refutation l.literals l.spans l.cursor.rest.now l.cursor.offset l.records l.invariant.1 q
+    c.apply-applied.new.refutation c.apply-applied.new.literals c.apply-applied.new.spans c.in_ok-record.record c.next.new.self.rest.now n.is
+    n.wrote ends (rw (← went) (c.apply-applied.ensures.moved q.stands))
 
 pub loop-record-preserved : goal.loop-record-preserved
 loop-record-preserved g c =
     let l = c.loop-record in
-    let e = c.in-Some.ensures in
-    let list = c.args.list.now in
-    let total = l.invariant.1 in
-    let is : read l.cursor.rest.now ≡ Some (c.in-Some.record, c.next.new.self.rest.now) =
-    read_some l.cursor.rest.now c.in-Some.record e.value ∙ ap (λ (x : List ℕ). Some (c.in-Some.record, x)) (sym e.rest) in
-    let shorter : length c.next.new.self.rest.now < length l.cursor.rest.now = longer c.in-Some.record l.cursor.rest.now c.next.new.self.rest.now e.exact.0 in (
-      omega (arith, l.invariant.0, e.offset, shorter),
+    let e = c.next.ensures in
+    let went : c.apply-applied.result ≡ Ok tt = search (rules, of_calls) in
+    let more : c.in_ok-record.record ≡ RefutationEnd → ⊥ = search rules in
+    let n = came l.cursor.rest.now c.next.new.self.rest.now c.next.result e.value e.rest e.exact c.in_ok-record.record c.in_ok-record.ensures.ok_part in (
+      omega (arith, l.invariant.0, e.offset, n.shorter),
       e.offset ∙ l.invariant.1,
       λ h.
           let q = l.invariant.2 h in
-          goes (g.L.ClauseList.clauses c.args.list.now c.args.literals.now c.args.spans.now) (g.L.ClauseList.literal_mark c.args.list.now) (g.L.ClauseList.span_mark c.args.list.now)
+          goes (g.L.ClauseList.clauses c.args.list.now) (g.L.ClauseList.literal_mark c.args.list.now) (g.L.ClauseList.span_mark c.args.list.now) (g.L.ClauseList.stands c.args.list.now)
           (room_of c.args.refutation.now c.args.literals.now c.args.spans.now) c.args.question c.args.cursor.now.offset c.args.cursor.now.rest.now c.args.literals.now c.args.spans.now h
-          l.refutation l.literals l.spans l.cursor.rest.now l.cursor.offset l.records total q
-          (g.L.ClauseList.clauses list l.literals l.spans)
-          (still (g.L.ClauseList.clauses list) (g.L.ClauseList.literal_mark list) (g.L.ClauseList.span_mark list) (g.L.ClauseList.stands list) (room_of c.args.refutation.now c.args.literals.now c.args.spans.now) h c.args.literals.now l.literals c.args.spans.now l.spans q.literals q.spans)
-          c.apply.new.refutation c.apply.new.literals c.apply.new.spans c.in-Some.record c.next.new.self.rest.now is
-          shorter c.apply.auto.literals c.apply.auto.spans e.exact.0 c.in-Ok.turn c.in-Next.is (c.in-Ok.ensures.moved q.stands),
+          l.refutation l.literals l.spans l.cursor.rest.now l.cursor.offset l.records l.invariant.1 q
+          c.apply-applied.new.refutation c.apply-applied.new.literals c.apply-applied.new.spans c.in_ok-record.record c.next.new.self.rest.now n.is
+          more n.shorter c.apply-applied.auto.literals c.apply-applied.auto.spans n.wrote (rw (← went) (c.apply-applied.ensures.moved q.stands)),
     )
-
-pub returns-in-End : goal.returns-in-End
-returns-in-End g c =
-    let l = c.loop-record in
-    let e = c.in-Some.ensures in
-    let list = c.args.list.now in
-    let total = l.invariant.1 in
-    let is : read l.cursor.rest.now ≡ Some (c.in-Some.record, c.next.new.self.rest.now) =
-    read_some l.cursor.rest.now c.in-Some.record e.value ∙ ap (λ (x : List ℕ). Some (c.in-Some.record, x)) (sym e.rest) in
-    record {
-      checked = λ h.
-          let q = l.invariant.2 h in
-          out_end (g.L.ClauseList.clauses c.args.list.now c.args.literals.now c.args.spans.now) (g.L.ClauseList.literal_mark c.args.list.now) (g.L.ClauseList.span_mark c.args.list.now)
-          (room_of c.args.refutation.now c.args.literals.now c.args.spans.now) c.args.question c.args.cursor.now.offset c.args.cursor.now.rest.now c.args.literals.now c.args.spans.now h
-          l.refutation l.literals l.spans l.cursor.rest.now l.cursor.offset l.records total q
-          (g.L.ClauseList.clauses list l.literals l.spans)
-          (still (g.L.ClauseList.clauses list) (g.L.ClauseList.literal_mark list) (g.L.ClauseList.span_mark list) (g.L.ClauseList.stands list) (room_of c.args.refutation.now c.args.literals.now c.args.spans.now) h c.args.literals.now l.literals c.args.spans.now l.spans q.literals q.spans)
-          c.apply.new.refutation c.apply.new.literals c.apply.new.spans c.in-Some.record c.next.new.self.rest.now is
-          e.exact.0 c.in-Ok.turn c.in-End.is (c.in-Ok.ensures.moved q.stands);
-      offset = e.offset ∙ l.invariant.1;
-      spent = c.in-Ok.ensures.spent (ap Ok c.in-End.is);
-    }
-
-pub returns-in-Err : goal.returns-in-Err
-returns-in-Err g c =
-    let l = c.loop-record in
-    let e = c.in-Some.ensures in
-    let list = c.args.list.now in
-    let total : c.offset-offset.result + length l.cursor.rest.now ≡ c.args.cursor.now.offset + length c.args.cursor.now.rest.now = ap (λ (i : ℕ). i + length l.cursor.rest.now) c.offset-offset.ensures ∙ l.invariant.1 in
-    let is : read l.cursor.rest.now ≡ Some (c.in-Some.record, c.next.new.self.rest.now) =
-    read_some l.cursor.rest.now c.in-Some.record e.value ∙ ap (λ (x : List ℕ). Some (c.in-Some.record, x)) (sym e.rest) in
-    record {
-      checked = λ h.
-          let q = l.invariant.2 h in
-          out_stop (g.L.ClauseList.clauses c.args.list.now c.args.literals.now c.args.spans.now) (g.L.ClauseList.literal_mark c.args.list.now) (g.L.ClauseList.span_mark c.args.list.now)
-          (room_of c.args.refutation.now c.args.literals.now c.args.spans.now) c.args.question c.args.cursor.now.offset c.args.cursor.now.rest.now c.args.literals.now c.args.spans.now h
-          l.refutation l.literals l.spans l.cursor.rest.now c.offset-offset.result l.records total q
-          (g.L.ClauseList.clauses list l.literals l.spans)
-          (still (g.L.ClauseList.clauses list) (g.L.ClauseList.literal_mark list) (g.L.ClauseList.span_mark list) (g.L.ClauseList.stands list) (room_of c.args.refutation.now c.args.literals.now c.args.spans.now) h c.args.literals.now l.literals c.args.spans.now l.spans q.literals q.spans)
-          c.apply.new.refutation c.apply.new.literals c.apply.new.spans c.in-Some.record c.next.new.self.rest.now is
-          c.in-Err.fault (c.in-Err.ensures.moved q.stands);
-      offset = e.offset ∙ l.invariant.1;
-      spent = tt;
-    }

@@ -1,13 +1,11 @@
-use Rattle.std.proofs.Common.{sym, arith}
-use Rattle.circuit.proofs.Parts.{taken_at, taken_past}
+use Rattle.std.proofs.Common.{take, ap, ◌∙◌}
+use Rattle.machine.specs.Lists.{entry}
+use Rattle.machine.proofs.Entries.{entry_copied}
 use Rattle.circuit.proofs.CircuitMachine.next_literal.Goals as goal
 
-pub returns-then-bit-self : goal.returns-then-bit-self
-returns-then-bit-self c =
-    let self = c.args.self.now in
-    sym (taken_at self.area.now self.header.latches c.args.bit (omega arith) (omega (arith, self.whole)))
-
-pub returns-else-bit-self : goal.returns-else-bit-self
-returns-else-bit-self c =
-    let self = c.args.self.now in
-    sym (taken_past self.area.now self.header.latches c.args.bit (omega arith))
+pub returns : goal.returns
+returns c =
+    let area = c.args.self.now.area.now in
+    let bit = c.args.bit in
+    let found = c.get.ensures.lookup in
+    c.copied.ensures ∙ entry_copied (take c.state_bits.result area) bit c.get.result found.0 found.1 ∙ ap (λ n. entry (take n area) bit) c.state_bits.ensures

@@ -1,16 +1,15 @@
-use Rattle.std.proofs.Common.{drop, Some, sym, ap, ◌∙◌, arith}
-use Rattle.std.proofs.lemmas.List.{length-drop, get_or-drop}
-use Rattle.circuit.proofs.Parts.{taken_at, taken_past}
+use Rattle.std.proofs.Common.{◌≡◌, ◌-◌, take, drop, ap, ◌∙◌, arith}
+use Rattle.machine.specs.Lists.{entry}
+use Rattle.machine.proofs.Entries.{entry_copied}
 use Rattle.circuit.proofs.CircuitMachine.rule_literal.Goals as goal
 
-pub returns-then-rule-self : goal.returns-then-rule-self
-returns-then-rule-self c =
+pub returns : goal.returns
+returns c =
     let h = c.args.self.now.header in
     let area = c.args.self.now.area.now in
     let rule = c.args.rule in
-    sym (taken_at (drop h.latches area) h.outputs rule (omega arith) (omega (arith, length-drop h.latches area, c.args.self.now.whole)) ∙ ap Some (get_or-drop h.latches area rule 0))
-
-pub returns-else-rule-self : goal.returns-else-rule-self
-returns-else-rule-self c =
-    let self = c.args.self.now in
-    sym (taken_past (drop self.header.latches self.area.now) self.header.outputs c.args.rule (omega arith))
+    let first = c.state_bits.result in
+    let count : c.heads.result - first ≡ h.outputs = omega (arith, c.heads.ensures, c.state_bits.ensures) in
+    let found = c.get.ensures.lookup in
+    c.copied.ensures ∙ entry_copied (take (c.heads.result - first) (drop first area)) rule c.get.result found.0 found.1
+    ∙ ap (λ n. entry (take n (drop first area)) rule) count ∙ ap (λ n. entry (take h.outputs (drop n area)) rule) c.state_bits.ensures

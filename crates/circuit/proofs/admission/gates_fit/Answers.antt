@@ -1,17 +1,17 @@
-use Rattle.std.proofs.Common.{sym, inl, inr, ⊎_elim, arith}
+use Rattle.std.proofs.Common.{◌≡◌, true, false, get_or, sym, ap, ◌∙◌, arith, rules, tests}
+use Rattle.std.specs.List.{range_with_len}
+use Rattle.std.proofs.lemmas.Iterator.{cases_from_all, YieldsList-from_range}
+use Rattle.std.proofs.lemmas.List.FromFn.{length-range_with_len, get_or-range_with_len}
 use Rattle.circuit.specs.Admission.{gate_fits}
-use Rattle.circuit.proofs.Judged.{below_none, below_more, below_fails, gate_fits_yes, gate_fits_no}
+use Rattle.circuit.proofs.Judged.{below_from_cases}
 use Rattle.circuit.proofs.admission.gates_fit.Goals as goal
 
-pub loop-j-init : goal.loop-j-init
-loop-j-init c = below_none (gate_fits c.args.header c.args.area.now)
-
-pub loop-j-preserved : goal.loop-j-preserved
-loop-j-preserved c =
-    below_more c.loop-j.j (gate_fits c.args.header c.args.area.now) c.loop-j.invariant
-    (gate_fits_yes c.args.header c.args.area.now c.loop-j.j (omega arith) (omega arith))
-
-pub returns-then-a-gate : goal.returns-then-a-gate
-returns-then-a-gate c =
-    sym (below_fails c.args.header.gates c.loop-j.j (gate_fits c.args.header c.args.area.now) (omega arith)
-    (gate_fits_no c.args.header c.args.area.now c.loop-j.j (⊎_elim (λ p. inl p) (λ q. inr q.1) c.then-a-gate.either)))
+pub returns : goal.returns
+returns c =
+    let h = c.args.header in
+    let area = c.args.area.now in
+    let cases = cases_from_all _ _ _ (λ j. gate_fits h area j ≡ true) (λ j. gate_fits h area j ≡ false) c.all.ensures.ran (YieldsList-from_range 0 h.gates h.gates (cc) (omega arith))
+    (λ x q k. search (rules, tests)) (λ x q k. search (rules, tests)) in
+    below_from_cases _ (range_with_len 0 h.gates) 0 h.gates (gate_fits h area) (λ j. gate_fits h area j ≡ true) (λ j. gate_fits h area j ≡ false) (length-range_with_len 0 h.gates) cases
+    (λ k l fits. let e : get_or (range_with_len 0 h.gates) k 0 ≡ k = omega (arith, get_or-range_with_len 0 h.gates k 0 l) in ap (gate_fits h area) (sym e) ∙ fits)
+    (λ k l fails. let e : get_or (range_with_len 0 h.gates) k 0 ≡ k = omega (arith, get_or-range_with_len 0 h.gates k 0 l) in ap (gate_fits h area) (sym e) ∙ fails)

@@ -1,18 +1,18 @@
-use Rattle.std.proofs.Common.{◌+◌, ◌*◌, get_or, sym, arith}
+use Rattle.std.proofs.Common.{◌+◌, ◌*◌, ◌<◌, ◌≤◌, get_or, take, arith, rules, tests}
 use Rattle.std.proofs.lemmas.Bool.{le-leb, lt-leb}
+use Rattle.std.proofs.lemmas.Iterator.{cases_from_all, YieldsList-from_slice}
+use Rattle.std.proofs.lemmas.List.{length-take-le, get_or-take}
 use Rattle.circuit.specs.Admission.{head_fits}
-use Rattle.circuit.proofs.Judged.{below_none, below_more, below_fails}
+use Rattle.circuit.proofs.Judged.{below_from_cases}
 use Rattle.circuit.proofs.admission.heads_fit.Goals as goal
 
-pub loop-k-init : goal.loop-k-init
-loop-k-init c = below_none (head_fits c.args.header c.args.area.now)
-
-pub loop-k-preserved : goal.loop-k-preserved
-loop-k-preserved c =
-    below_more c.loop-k.k (head_fits c.args.header c.args.area.now) c.loop-k.invariant
-    (le-leb (get_or c.args.area.now c.loop-k.k 0) (2 * c.args.header.maximum + 1) (omega arith))
-
-pub returns-then-area-k : goal.returns-then-area-k
-returns-then-area-k c =
-    sym (below_fails (c.args.header.latches + c.args.header.outputs) c.loop-k.k (head_fits c.args.header c.args.area.now) (omega arith)
-    (lt-leb (get_or c.args.area.now c.loop-k.k 0) (2 * c.args.header.maximum + 1) (omega arith)))
+pub returns : goal.returns
+returns c =
+    let h = c.args.header in
+    let area = c.args.area.now in
+    let top = 2 * h.maximum + 1 in
+    let cases = cases_from_all _ _ _ (λ x. x ≤ top) (λ x. top < x) c.all.ensures.ran (YieldsList-from_slice (take c.heads.result area) cc) (λ x q k. search (rules, tests)) (λ x q k. search (rules, tests)) in
+    below_from_cases _ _ 0 (h.latches + h.outputs) (head_fits h area) (λ x. x ≤ top) (λ x. top < x)
+    (omega (arith, length-take-le c.heads.result area (omega (arith, c.heads.ensures)), c.heads.ensures)) cases
+    (λ k l low. let k< : k < c.heads.result = omega (arith, c.heads.ensures) in le-leb (get_or area k 0) top (omega (arith, get_or-take c.heads.result area k 0 k<)))
+    (λ k l high. let k< : k < c.heads.result = omega (arith, c.heads.ensures) in lt-leb (get_or area k 0) top (omega (arith, get_or-take c.heads.result area k 0 k<)))

@@ -1,19 +1,7 @@
-use Rattle.std.proofs.Common.{length, sym}
-use Rattle.std.proofs.lemmas.Bool.{ltb-true}
+use Rattle.std.proofs.Common.{length}
 use Rattle.checking.specs.Verdicts.{Areas}
-use Rattle.docket.specs.Books.{most}
 use Rattle.docket.proofs.Keeping.{sound_after_note, accepted_inside}
 use Rattle.docket.proofs.Docket.hand_in.Goals as goal
-
-pub note-requires : goal.note-requires
-note-requires g c =
-    let m = c.args.self.now.machine.now in
-    let areas : Areas = record { row = length c.args.row.now; literals = length c.args.literals.now; spans = length c.args.spans.now } in
-    record {
-      sound = c.args.self.now.sound;
-      room = ltb-true c.args.self.now.book.tally.handed_in most (sym c.if-not-has_room.ensures);
-      inside = accepted_inside (g.M.Machine.meaning m) (g.M.Machine.lawful m) c.args.rule c.args.bytes.now areas c.check-result.result c.check-result.ensures.answer;
-    }
 
 pub invariant_of-self : goal.invariant_of-self
 invariant_of-self g c =

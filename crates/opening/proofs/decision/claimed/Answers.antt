@@ -1,33 +1,30 @@
-use Rattle.std.proofs.Common.{◌≡◌, ◌≤◌, sym, inl, inr, ⊎_elim, arith}
-use Rattle.opening.proofs.Arms.{claim_outside, claim_unknown, fresh_trace, fresh_induction, fresh_counterexample}
+use Rattle.std.proofs.Common.{◌≡◌, ◌<◌, ◌⊎◌, Err, inl, inr, sym, ◌∙◌, arith, rules}
+use Rattle.opening.specs.Openings.{most}
+use Rattle.opening.proofs.Arms.{claim_known, fresh_unknown, fresh_outside, fresh_trace, fresh_opened}
 use Rattle.opening.proofs.decision.claimed.Goals as goal
-use Rattle.opening.proofs.decision.claimed.Goals.{then-claim-eq3, else-claim-eq3}
+use Rattle.opening.proofs.decision.claimed.Goals.{then-size-lt1-via-then-size-lt1, then-size-lt1-via-else-size-lt1+then-size-most}
+
+pub returns-in_err-claim : goal.returns-in_err-claim
+returns-in_err-claim c =
+    let same : c.from_residual.result ≡ Err c.in_err-claim.field-0.0 = search rules in
+    λ m f ls ps e. fresh_unknown f ls ps e c.args.claim c.args.size c.in_err-claim.field-0.0 c.from_residual.result (sym c.in_err-claim.was ∙ c.try_from.ensures) same
 
 pub returns-then-size-lt1 : goal.returns-then-size-lt1
 returns-then-size-lt1 c =
-    let three : c.args.claim ≡ 3 → c.if-claim-eq3.most ≡ 4096 =
-    λ e. elim c.if-claim-eq3.branch [ then-claim-eq3 w ↦ w.most-is | else-claim-eq3 w ↦ absurd (w.if-claim-eq3.false e) ] in
-    let other : (c.args.claim ≡ 3 → ⊥) → c.if-claim-eq3.most ≡ 64 =
-    λ n. elim c.if-claim-eq3.branch [ then-claim-eq3 w ↦ absurd (n w.if-claim-eq3.true) | else-claim-eq3 w ↦ w.most-is ] in
-    λ m f ls ps e. record {
-      is = sym (claim_outside c.args.claim c.args.size c.if-claim-eq3.most three other (⊎_elim (λ a. inl a) (λ b. inr b.1) c.then-size-lt1.either));
-      steady = tt;
-    }
+    let claim = c.in_ok-claim.claim in
+    let is = claim_known c.args.claim claim (sym c.in_ok-claim.was ∙ c.try_from.ensures) in
+    let outside : (c.args.size < 1) ⊎ (most claim < c.args.size) =
+    elim c.then-size-lt1.branch [ then-size-lt1-via-then-size-lt1 w ↦ inl w.if-size-lt1.true | then-size-lt1-via-else-size-lt1+then-size-most w ↦ inr (omega (arith, w.most.ensures, w.if-size-most.true)) ] in
+    λ m f ls ps e. fresh_outside f ls ps e c.args.claim c.args.size claim is outside
 
-pub returns-in-1 : goal.returns-in-1
-returns-in-1 c =
-    let few : c.args.size ≤ 64 = elim c.if-claim-eq3.branch [ then-claim-eq3 w ↦ omega (arith, w.if-claim-eq3.true, c.in-1.is) | else-claim-eq3 w ↦ omega (arith, w.most-is) ] in
-    λ m f ls ps e. fresh_trace f ls ps e c.args.claim c.args.size c.in-1.is (omega arith) few
+pub returns-in-Trace : goal.returns-in-Trace
+returns-in-Trace c =
+    let claim = c.in_ok-claim.claim in
+    let is = claim_known c.args.claim claim (sym c.in_ok-claim.was ∙ c.try_from.ensures) in
+    λ m f ls ps e. fresh_trace f ls ps e c.args.claim c.args.size claim c.in-Trace.is is (omega arith) (omega (arith, c.most.ensures))
 
-pub returns-in-2 : goal.returns-in-2
-returns-in-2 c =
-    let few : c.args.size ≤ 64 = elim c.if-claim-eq3.branch [ then-claim-eq3 w ↦ omega (arith, w.if-claim-eq3.true, c.in-2.is) | else-claim-eq3 w ↦ omega (arith, w.most-is) ] in
-    λ m f ls ps e. fresh_induction f ls ps e c.args.claim c.args.size c.in-2.is (omega arith) few
-
-pub returns-in-3 : goal.returns-in-3
-returns-in-3 c =
-    let few : c.args.size ≤ 4096 = elim c.if-claim-eq3.branch [ then-claim-eq3 w ↦ omega (arith, w.most-is) | else-claim-eq3 w ↦ omega (arith, w.most-is) ] in
-    λ m f ls ps e. fresh_counterexample f ls ps e c.args.claim c.args.size c.in-3.is (omega arith) few
-
-pub returns-in_default : goal.returns-in_default
-returns-in_default c = λ m f ls ps e. record { is = sym (claim_unknown c.args.claim c.args.size (λ q. omega arith) (λ q. omega arith) (λ q. omega arith)); steady = tt }
+pub returns-in-Induction : goal.returns-in-Induction
+returns-in-Induction c =
+    let claim = c.in_ok-claim.claim in
+    let is = claim_known c.args.claim claim (sym c.in_ok-claim.was ∙ c.try_from.ensures) in
+    λ m f ls ps e. fresh_opened f ls ps e c.args.claim c.args.size claim c.in-Induction.is is (omega arith) (omega (arith, c.most.ensures))

@@ -1,12 +1,12 @@
-use Rattle.std.proofs.Common.{◌∙◌, inl, inr, ⊎_elim, arith}
-use Rattle.opening.proofs.Arms.{next_outside, next_within}
+use Rattle.std.proofs.Common.{arith}
+use Rattle.std.proofs.lemmas.Bool.Decides.{nat_tests}
+use Rattle.opening.specs.Steps.{is_next_literal}
 use Rattle.opening.proofs.decision.is_next.Goals as goal
 
-pub returns-then-variable-first : goal.returns-then-variable-first
-returns-then-variable-first g c =
-    next_outside (g.M.Machine.meaning c.args.machine.now) c.args.clause.now c.args.literal
-    (⊎_elim (λ a. inl (omega arith)) (λ b. inr (omega arith)) c.then-variable-first.either)
+pub returns-then-contains : goal.returns-then-contains
+unfolding is_next_literal
+returns-then-contains g c = grind (arith, nat_tests)
 
-pub returns : goal.returns
-returns g c =
-    c.above.ensures ∙ next_within (g.M.Machine.meaning c.args.machine.now) c.args.clause.now c.args.literal (omega arith) (omega arith)
+pub returns-else-contains : goal.returns-else-contains
+unfolding is_next_literal
+returns-else-contains g c = grind (arith, nat_tests)

@@ -1,4 +1,4 @@
-use Rattle.std.proofs.Common.{◌≡◌, ◌^◌, take, sym, ap, ◌∙◌, arith}
+use Rattle.std.proofs.Common.{◌≡◌, take, sym, ap, ◌∙◌, arith}
 use Rattle.questions.specs.Places.{halved}
 use Rattle.questions.proofs.Halving.{half, halved_done, turn_on, turn_off}
 use Rattle.questions.proofs.closing.find_span.Goals as goal
@@ -21,12 +21,8 @@ loop-bit-preserved c =
       omega (arith, c.loop-bit.invariant.1),
     )
 
-pub returns : goal.returns
-returns c =
+pub returns-clause-span : goal.returns-clause-span
+returns-clause-span c =
     let ps = take c.args.frames.now.spans.used c.args.spans.now in
     let z : c.loop-bit.bit ≡ 0 = omega arith in
-    let one : 2 ^ c.loop-bit.bit ≡ 1 = ap (λ b. 2 ^ b) z in
-    record {
-      span = sym (c.loop-bit.invariant.0 ∙ ap (λ b. halved ps c.args.literal b c.loop-bit.span) z ∙ halved_done ps c.args.literal c.loop-bit.span);
-      few = omega (arith, c.loop-bit.invariant.1);
-    }
+    sym (c.loop-bit.invariant.0 ∙ ap (λ b. halved ps c.args.literal b c.loop-bit.span) z ∙ halved_done ps c.args.literal c.loop-bit.span)

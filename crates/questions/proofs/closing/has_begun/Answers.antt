@@ -1,17 +1,8 @@
-use Rattle.std.proofs.Common.{ap, arith}
-use Rattle.questions.proofs.Halving.{begun_there, begun_past}
+use Rattle.std.proofs.Common.{rules, tests, ap}
+use Rattle.questions.proofs.Halving.{begun_read}
 use Rattle.questions.proofs.closing.has_begun.Goals as goal
 
-pub returns-in-Some : goal.returns-in-Some
-returns-in-Some c =
-    let f = c.args.frames.now in
-    let u = ap (λ s. s.used) c.spans.ensures in
-    let h = c.in-Some.ensures in
-    begun_there f.spans.used c.args.spans.now c.args.literal c.args.number c.in-Some.span (omega arith) h.1
-
-pub returns-in-None : goal.returns-in-None
-returns-in-None c =
-    let f = c.args.frames.now in
-    let u = ap (λ s. s.used) c.spans.ensures in
-    let h = c.in-None.ensures in
-    begun_past f.spans.used c.args.spans.now c.args.literal c.args.number (omega arith)
+pub returns : goal.returns
+returns c =
+    begun_read c.args.frames.now.spans.used c.spans.result.used c.args.spans.now c.args.literal c.args.number c.read.result c.is_some_and.result _
+    (ap (λ s. s.used) c.spans.ensures) c.read.ensures c.is_some_and.ensures (λ p h. search (rules, tests))

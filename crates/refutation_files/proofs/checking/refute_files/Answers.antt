@@ -1,15 +1,17 @@
 use Rattle.std.proofs.Common.{◌≡◌, length, refl, ◌∙◌}
+use Rattle.std.proofs.lemmas.Option.{MatchOption-at_some}
 use Rattle.stack.specs.Runs.{runs}
 use Rattle.refutation_files.proofs.Judging.{comes}
 use Rattle.refutation_files.proofs.checking.refute_files.Goals as goal
 
 pub returns-clause-verdict : goal.returns-clause-verdict
 returns-clause-verdict c =
-    let list = c.in-Some.list in
+    let list = c.in_ok-list.list in
     let file = c.in_ok-file.file in
-    let held = rw c.in-Some.is at c.in_ok-list.ensures in
-    let ls : c.in-Some-new.table.literals.now ≡ list.literals.items = c.in-Some-new.ensures.0 ∙ c.as_slice.ensures.value in
-    let ss : c.in-Some-new.table.spans.now ≡ list.spans.items = c.in-Some-new.ensures.1 ∙ c.as_slice-2.ensures.value in
+    let held = c.in_ok-list.ensures in
+    let t = MatchOption-at_some _ _ c.in_ok-table.table c.in_ok-table.ensures.ok_part c.new.ensures in
+    let ls : c.in_ok-table.table.literals.now ≡ list.literals.items = t.0 ∙ c.as_slice.ensures.value in
+    let ss : c.in_ok-table.table.spans.now ≡ list.spans.items = t.1 ∙ c.as_slice-2.ensures.value in
     let steps : c.as_slice-3.result.now ≡ file.steps.items = c.as_slice-3.ensures.value in
     let answer = rw (ls, ss, steps) at (c.refute-outcome.ensures.answer refl refl) in
     let refuted = rw (ls, ss) at (c.refute-outcome.ensures.refuted refl refl) in

@@ -1,16 +1,21 @@
+use Rattle.std.proofs.Common.{arith}
+use Rattle.std.proofs.lemmas.List.{length-set}
 use Rattle.table_format.specs.Tables.{table_of}
 use Rattle.step_table.proofs.FilledRow.{can, number_in, filled}
 use Rattle.step_table.proofs.StepTableMachine.fill.Goals as goal
 
-pub next_state-requires : goal.next_state-requires
-next_state-requires c =
-    number_in (table_of c.args.self.now.bytes.now) c.args.row.now c.given-given.result c.variables.result c.given-given.ensures c.variables.ensures
-    (c.can_fill.ensures.yes c.if-not-can_fill.false) c.row_number-number.result c.row_number-number.ensures
+pub invariant_of-given_row : goal.invariant_of-given_row
+invariant_of-given_row c =
+    record {
+      within = number_in (table_of c.args.self.now.bytes.now) c.args.row.now c.given-given.result c.variables.result c.given-given.ensures c.variables.ensures
+          (c.can_fill.ensures.yes c.if-not-can_fill.false) c.row_number-number.result c.row_number-number.ensures;
+    }
 
-pub broken_rules-requires : goal.broken_rules-requires
-broken_rules-requires c =
-    number_in (table_of c.args.self.now.bytes.now) c.args.row.now c.given-given.result c.variables.result c.given-given.ensures c.variables.ensures
-    (c.can_fill.ensures.yes c.if-not-can_fill.false) c.row_number-number.result c.row_number-number.ensures
+pub mark_row-requires : goal.mark_row-requires
+mark_row-requires c =
+    let ready = c.can_fill.ensures.yes c.if-not-can_fill.false in
+    let within = number_in (table_of c.args.self.now.bytes.now) c.args.row.now c.given-given.result c.variables.result c.given-given.ensures c.variables.ensures ready c.row_number-number.result c.row_number-number.ensures in
+    (omega (arith, within, c.rows.ensures), omega (arith, ready.0, length-set c.args.row.now 0 0, c.variables.ensures, c.given-given.ensures, c.rows.ensures))
 
 pub returns : goal.returns
 returns c =

@@ -1,7 +1,7 @@
-use Rattle.std.proofs.Common.{◌≡◌}
-use lib.Seq.{paste}
-use Rattle.step_table.specs.Filling.{bit_bytes}
+use Rattle.std.proofs.Common.{◌≡◌, ℕ, ◌<◌, get_or}
+use Rattle.machine.specs.Rows.{byte}
+use Rattle.table_format.specs.Stepping.{binary_digit}
 use Rattle.step_table.proofs.filling.set_bits.Given as goal
 
-abbrev pub invariant-loop-k : goal.invariant-loop-k
-invariant-loop-k l = l.row ≡ paste l.initial.row l.first (bit_bytes l.value l.count) l.k
+abbrev pub invariant-loop-bit : goal.invariant-loop-bit
+invariant-loop-bit l = (k : ℕ) → k < l.bit → get_or l.byte-items k 0 ≡ byte (binary_digit l.value k)

@@ -1,6 +1,5 @@
-use Rattle.std.proofs.Common.{◌≡◌, ℕ, ◌+◌, ◌-◌, ◌*◌, take, sym, refl, ap, arith}
+use Rattle.std.proofs.Common.{ℕ, take, sym, refl, ap}
 use Rattle.std.proofs.lemmas.Result.{err_from_is_err_and}
-use Rattle.aiger.specs.Numbers.{needed}
 use Rattle.circuit.proofs.Judged.{good_from, not_good_from, cut}
 use Rattle.circuit.proofs.circuit.Circuit.set.Goals as goal
 
@@ -14,15 +13,9 @@ pub invariant_of-self : goal.invariant_of-self
 invariant_of-self c =
     let h = c.args.header in
     let good = good_from h c.args.area.now c.in_ok-judge.field-0 (sym c.in_ok-judge.ensures) in
-    let both = cut h c.args.area.now (h.latches + h.outputs + 2 * h.gates - 0) (omega arith) good in
+    let both = cut h c.args.area.now c.needed.result c.needed.ensures good in
     record { good = both.0; whole = both.1 }
 
-pub returns : goal.returns
-returns c =
-    let h = c.args.header in
-    let e = c.in_ok-judge.ensures in
-    let n : h.latches + h.outputs + 2 * h.gates - 0 ≡ needed h = omega arith in
-    record {
-      answer = e;
-      circuit = (good_from h c.args.area.now c.in_ok-judge.field-0 (sym e), refl, ap (λ (k : ℕ). take k c.args.area.now) n);
-    }
+pub returns-clause-circuit : goal.returns-clause-circuit
+returns-clause-circuit c =
+    (good_from c.args.header c.args.area.now c.in_ok-judge.field-0 (sym c.in_ok-judge.ensures), refl, ap (λ (k : ℕ). take k c.args.area.now) c.needed.ensures)

@@ -1,29 +1,16 @@
-use Rattle.std.proofs.Common.{◌≡◌, ℕ, ◌-◌, ◌<◌, ◌≤◌, Bool, true, cond, List, [], ◌∷◌, ◌++◌, length, get_or, take, sym, ap, ◌∙◌, ⊎_elim, arith}
-use Rattle.std.proofs.lemmas.List.{length-take, take_more, take_all, get_or-take}
-use Rattle.std.proofs.lemmas.Bool.{lt-ltb, cases_lt}
+use Rattle.std.proofs.Common.{◌≡◌, ℕ, suc, List, [], ◌∷◌, ◌++◌, take, append_assoc, arith}
 use Rattle.machine.specs.Clauses.{listed}
 use Rattle.machine.proofs.clause.Clause.of.Goals as goal
 
+-- the literal that is moved over, between those before it and those behind
+moved_over : (xs ys rest rest' all : List ℕ) (x n n' : ℕ) → xs ++ take n rest ≡ all → ys ≡ xs ++ x ∷ [] → rest ≡ x ∷ rest' → n ≡ suc n' → ys ++ take n' rest' ≡ all
+moved_over xs ys rest rest' all x n n' h p q e = simp (p, append_assoc) (simp (q, e) at h)
+
 pub loop-literal-preserved : goal.loop-literal-preserved
 loop-literal-preserved c =
-    let i = c.loop-literal.literal-index in
-    let xs = c.args.literals.now in
-    let n = c.min-end.result - 0 in
-    let i<n : i < n = omega (arith, length-take n xs) in
-    let i< : i < length xs = omega (arith, c.min-end.ensures) in
-    let room : c.push.result ≡ true = c.push.ensures.room ∙ lt-ltb (length (listed c.loop-literal.clause)) 16 (omega (arith, ap length c.loop-literal.invariant, length-take i xs, c.min-end.ensures)) in
-    c.push.ensures.literals ∙ ap (λ (b : Bool). listed c.loop-literal.clause ++ cond b (get_or (take n xs) i 0 ∷ []) []) room
-    ∙ both c.loop-literal.invariant (get_or-take n xs i 0 i<n) ∙ sym (take_more xs i 0 i<)
-  where
-    both : {p q : List ℕ} {x y : ℕ} → p ≡ q → x ≡ y → p ++ x ∷ [] ≡ q ++ y ∷ []
-    both e f = cc
-
-pub returns : goal.returns
-returns c =
-    let i = c.loop-literal.literal-index in
-    let xs = c.args.literals.now in
-    let n = c.min-end.result - 0 in
-    c.loop-literal.invariant ∙ ⊎_elim
-    (λ (long : 16 < length xs). let e : i ≡ 16 = omega (arith, length-take n xs, c.min-end.ensures) in ap (λ (k : ℕ). take k xs) e)
-    (λ (short : length xs ≤ 16). take_all i xs (omega (arith, length-take n xs, c.min-end.ensures)) ∙ sym (take_all 16 xs short))
-    (cases_lt 16 (length xs))
+    let s = c.in-Some.ensures.steps in
+    let now = c.loop-literal.literal-iterator in
+    let next = c.next.new.self in (
+      moved_over (listed c.loop-literal.clause) c.push.new.self.items now.iter.rest.now next.iter.rest.now _ _ now.n next.n c.loop-literal.invariant.0 c.push.ensures.items s.0 (omega (arith, s.1)),
+      omega (arith, s.1, c.push.ensures.len),
+    )

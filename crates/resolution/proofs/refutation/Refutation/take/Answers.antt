@@ -1,13 +1,14 @@
-use Rattle.std.proofs.Common.{◌≡◌, ℕ, ◌+◌, ◌-◌, false, List, [], ◌∷◌, length, Ok, Err, Result, sym, refl, ap, ◌∙◌, arith}
+use Rattle.std.proofs.Common.{◌≡◌, ℕ, ◌+◌, ◌-◌, ◌<◌, false, List, [], ◌∷◌, length, Ok, Err, Result, sym, refl, ap, ◌∙◌, arith}
 use Rattle.std.proofs.ByRecursion.{All-get_or}
 use Rattle.std.proofs.lemmas.Bool.{cond-false}
+use Rattle.std.proofs.lemmas.Result.{err_from_is_err_and}
 use Rattle.refusal.specs.declared.faults.RefutationFault.{RefutationFault}
-use Rattle.refusal.specs.declared.faults.RefutationFault.TheVariants.{NoClause, Full}
+use Rattle.refusal.specs.declared.faults.RefutationFault.TheVariants.{NoClause, NoPivot, Full, NotRefuted}
 use Rattle.stack.specs.declared.spans.Span.{Span}
 use Rattle.stack.specs.Pushes.{placed}
 use Rattle.resolution.specs.declared.refutation.Refutation.{Refutation}
 use Rattle.resolution.specs.Clauses.{Rising}
-use Rattle.resolution.specs.Lists.{numbered_clause}
+use Rattle.resolution.specs.Lists.{numbered_clause, CopiedAs}
 use Rattle.resolution.specs.Outcomes.{takes}
 use Rattle.resolution.specs.States.{own, taken}
 use Rattle.resolution.proofs.Laws.{implied_member}
@@ -48,25 +49,33 @@ returns-then-not-has_place g c =
 abbrev topped : Refutation → ℕ → Refutation
 topped t n = record { floor = t.floor; first = t.first; literals = record { used = n }; spans = t.spans; spent = t.spent }
 
-pub returns-then-not-copy : goal.returns-then-not-copy
-returns-then-not-copy g c =
+-- a copy that is refused is refused as the take is, and leaves all as it was
+refused_copy : (t : Refutation) (list : List (List ℕ)) (n end : ℕ) (ls ms : List ℕ) (ps : List Span) (e : RefutationFault) → t.spent ≡ false → n < length list → CopiedAs list n t.literals.used end ls ms (Err e)
+    → (taken t list n ls ps ≡ Err e) × (topped t end ≡ t) × (ms ≡ ls)
+refused_copy t list n end ls ms ps NoClause o h k = absurd (omega arith)
+refused_copy t list n end ls ms ps Full o h k =
+    (open_takes t list n ls ps _ o (takes_room list n t.literals.used (length ls) t.spans.used (length ps) h k.1), ap (topped t) k.2, k.3)
+refused_copy t list n end ls ms ps NoPivot o h k = absurd k
+refused_copy t list n end ls ms ps NotRefuted o h k = absurd k
+
+pub returns-in_err-copy : goal.returns-in_err-copy
+returns-in_err-copy g c =
     let t = c.args.self.now in
     let ls = c.args.literals.now in
     let ps = c.args.spans.now in
     let cs = g.L.ClauseList.clauses c.args.list.now ls ps in
     let n = c.count.ensures in
-    let h = c.if-not-copy.ensures in
-    let eu = ap (topped t) h.1 in
-    let w = open_takes t cs c.args.number ls ps _ c.if-self.false (takes_room cs c.args.number t.literals.used (length ls) t.spans.used (length ps) (omega arith) (h.0 (omega arith))) in
-    record {
-      step = refused_as t ls ps _ Full w (topped t c.copy.new.stack.used) c.copy.new.literals eu h.2;
+    let h = refused_copy t cs c.args.number c.copy.new.stack.used ls c.copy.new.literals ps c.in_err-copy.field-0.0 c.if-self.false (omega arith) c.in_err-copy.ensures in
+    let p = err_from_is_err_and c.from_residual.result c.from_residual.ensures.1 in
+    rw (p.1, p.2) (record {
+      step = refused_as t ls ps _ c.in_err-copy.field-0.0 h.0 (topped t c.copy.new.stack.used) c.copy.new.literals h.1 h.2;
       spent = refl;
-      carries = λ _. same_as cs t (topped t c.copy.new.stack.used) ls c.copy.new.literals ps eu h.2;
-    }
+      carries = λ _. same_as cs t (topped t c.copy.new.stack.used) ls c.copy.new.literals ps h.1 h.2;
+    })
 
 pub note-requires : goal.note-requires
 note-requires g c =
-    let h = c.if-not-copy.ensures in
+    let h = c.in_ok-copy.ensures in
     let p = place_free (length c.args.literals.now) (length c.args.spans.now) c.args.self.now.spans.used (sym c.if-not-has_place.ensures) in
     record { order = omega arith; small = omega arith; free = p.1 }
 
@@ -77,7 +86,7 @@ returns g c =
     let ps = c.args.spans.now in
     let cs = g.L.ClauseList.clauses c.args.list.now ls ps in
     let cl = numbered_clause cs c.args.number in
-    let h = c.if-not-copy.ensures in
+    let h = c.in_ok-copy.ensures in
     let b = sym c.if-not-has_place.ensures in
     let p = place_free (length c.args.literals.now) (length c.args.spans.now) c.args.self.now.spans.used (sym c.if-not-has_place.ensures) in
     let l = length_own t.literals.used t.first t.spans.used ls ps in

@@ -34,5 +34,5 @@ pub returns : goal.returns
 returns c =
     record {
       order = (omega arith, omega arith);
-      marks = λ area h. marked area c.args.n c.args.self c.least-start.result c.least-length.result h c.least-start.ensures c.least-length.ensures;
+      marks = λ area h. marked area c.args.n c.args.self c.min-start.result c.min-length.result h c.min-start.ensures c.min-length.ensures;
     }

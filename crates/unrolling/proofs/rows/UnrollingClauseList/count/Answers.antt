@@ -5,4 +5,4 @@ use Rattle.unrolling.proofs.rows.UnrollingClauseList.count.Goals as goal
 pub returns : goal.returns
 returns g c =
     let machine = c.args.self.now.machine.now in
-    c.count_unrolled.ensures ∙ sym (unroll_in_order (g.M.Machine.meaning machine) (g.M.Machine.lawful machine) c.args.self.now.depth).count
+    c.size.ensures ∙ sym (unroll_in_order (g.M.Machine.meaning machine) (g.M.Machine.lawful machine) c.args.self.now.depth).count

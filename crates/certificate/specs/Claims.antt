@@ -18,6 +18,12 @@ claim_of number =
     (cond (number == kind Induction) (Ok Induction)
     (cond (number == kind Counterexample) (Ok Counterexample) (Err WrongNumber)))
 
+-- the greatest size of a claim
+abbrev pub most : Claim → ℕ
+most Trace = 64
+most Induction = 64
+most Counterexample = 4096
+
 -- a claim by its name
 abbrev pub claim_text : Claim → List ℕ
 claim_text Trace = codes "trace"

@@ -1,6 +1,6 @@
 // What a certificate claims, and the number of each claim.
 ghost use Rattle.std.specs.Prelude.{◌≡◌, Some};
-ghost use Rattle.certificate.specs.Claims.{claim_of, claim_text};
+ghost use Rattle.certificate.specs.Claims.{claim_of, most, claim_text};
 
 use refusal::CertificateFault;
 use std::fmt;
@@ -27,6 +27,18 @@ impl TryFrom<u8> for Claim {
             2 => Ok(Claim::Induction),
             3 => Ok(Claim::Counterexample),
             _ => Err(CertificateFault::WrongNumber),
+        }
+    }
+}
+
+impl Claim {
+    // The greatest size that the claim may have.
+    pub fn most(self) -> u32
+        ensures { result ≡ most self }
+    {
+        match self {
+            Claim::Trace | Claim::Induction => 64,
+            Claim::Counterexample => 4096,
         }
     }
 }

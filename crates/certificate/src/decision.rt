@@ -1,5 +1,6 @@
 // What a record does: the next phase, or the fault of the first question that is answered no.
 ghost use Rattle.std.specs.Prelude.{◌≡◌, ◌+◌, ◌<◌, ◌≤◌, length};
+ghost use Rattle.machine.specs.Meaning.{Meaning};
 ghost use Rattle.machine.specs.Rows.{row_state, row_inputs, Fillable};
 ghost use Rattle.certificate.specs.Area.{part, SmallInputs, SmallState};
 ghost use Rattle.certificate.specs.Steps.{claimed, bit_set, row_ended, step};
@@ -22,7 +23,7 @@ fn open<M: Machine>(
     ensures steady { Steadily (M.meaning machine.now) result row.new }
 {
     let claim = Claim::try_from(claim)?;
-    if claim != Claim::Counterexample || !(1..=4096).contains(&size) {
+    if claim != Claim::Counterexample || !(1..=claim.most()).contains(&size) {
         return Err(CertificateFault::WrongNumber);
     }
     rows::begin(machine, row);
@@ -33,18 +34,10 @@ fn open<M: Machine>(
 }
 
 // One bit more of a row that lacks bits.
-fn set_bit<M: Machine>(
-    machine: &M,
-    value: u8,
-    left: u32,
-    bits: usize,
-    row: &mut [u8],
-) -> Result<Phase, CertificateFault>
-    requires room { (M.meaning machine.now).variables ≤ length row.old }
-    requires lacking { bits < (M.meaning machine.now).inputs }
-    requires small { (SmallInputs bits row.old) × (SmallState (M.meaning machine.now) row.old) }
-    ensures is { seen (M.meaning machine.now) result row.new ≡ bit_set (M.meaning machine.now) value left (part 1 bits row.old) (row_state (M.meaning machine.now) row.old) }
-    ensures steady { Steadily (M.meaning machine.now) result row.new }
+fn set_bit(value: u8, left: u32, bits: usize, row: &mut [u8]) -> Result<Phase, CertificateFault>
+    requires { 1 + bits < length row.old }
+    ensures is { (m : Meaning) → bits < m.inputs → seen m result row.new ≡ bit_set m value left (part 1 bits row.old) (row_state m row.old) }
+    ensures steady { (m : Meaning) → bits < m.inputs → SmallInputs bits row.old → SmallState m row.old → Steadily m result row.new }
 {
     // a bit is 0 or 1
     if value > 1 {
@@ -100,7 +93,7 @@ pub(crate) fn step<M: Machine>(
     match (record, phase) {
         (Record::Claim { claim, size }, Phase::Opening) => open(machine, claim, size, row),
         (Record::Bit(value), Phase::Row { left, bits }) if bits < inputs => set_bit(
-            machine, value, left, bits, row,
+            value, left, bits, row,
         ),
         (Record::RowEnd, Phase::Row { left, bits }) if bits == inputs => end_row(
             machine, rule, left, row,

@@ -5,9 +5,10 @@ use Rattle.opening.specs.Views.{Settled}
 use Rattle.stack.specs.declared.spans.Span.{Span}
 use Rattle.resolution.specs.Outcomes as refutation
 use Rattle.machine.specs.Meaning.{Meaning}
+use Rattle.certificate.specs.Claims.{most}
 use Rattle.certificate.specs.declared.claim.Claim.{Claim}
 use Rattle.opening.specs.declared.opening.Opening.{Opening}
-use Rattle.opening.specs.Openings.{most, Framed}
+use Rattle.opening.specs.Openings.{Framed}
 
 -- an opening with this claim stands in the areas, these are not too long, and the records so far have at least a byte each
 pub record Opened (m : Meaning) (claim : Claim) (o : Opening) (offset : ℕ) (ls : List ℕ) (ps : List Span) : Type 0 where

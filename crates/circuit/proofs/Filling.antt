@@ -63,22 +63,21 @@ no_gates h area row some small =
       rest = refl;
     }
 
--- one gate more, of operands that were read at their place in the area
-pub gates_more : (h : Header) (area old row : List ℕ) (j n at x y : ℕ) → Good h area → length area ≡ needed h → GatesFilled h area old row j →
-    j < h.gates → n ≡ 1 + h.inputs + h.latches + j → at ≡ h.latches + h.outputs + 2 * j → n < length row →
-    x ≡ byte (lit (bits row) (get_or area at 0)) → y ≡ byte (lit (bits row) (get_or area (at + 1) 0)) → GatesFilled h area old (set row n (bit_and x y)) (j + 1)
-gates_more h area old row j n at x y good whole so_far low is_n is_at room is_x is_y =
+-- one gate more, of the operands that stand in the area
+pub gates_more : (h : Header) (area old row : List ℕ) (j n a b x y : ℕ) → Good h area → length area ≡ needed h → GatesFilled h area old row j →
+    j < h.gates → n ≡ 1 + h.inputs + h.latches + j → a ≡ get_or area (h.latches + h.outputs + 2 * j) 0 → b ≡ get_or area (h.latches + h.outputs + (2 * j + 1)) 0 → n < length row →
+    x ≡ byte (lit (bits row) a) → y ≡ byte (lit (bits row) b) → GatesFilled h area old (set row n (bit_and x y)) (j + 1)
+gates_more h area old row j n a b x y good whole so_far low is_n is_a is_b room is_x is_y =
     let r : List ℕ = operands h area in
     let u : List Bool = bits (take n row) in
     let ops = good.2 j low in
     let first : ℕ = h.latches + h.outputs in
-    let next : first + (2 * j + 1) ≡ at + 1 = omega arith in
-    let ea : get_or r (2 * j) 0 ≡ get_or area at 0 = get_or-drop first area (2 * j) 0 ∙ ap (λ (k : ℕ). get_or area k 0) (sym is_at) in
-    let eb : get_or r (2 * j + 1) 0 ≡ get_or area (at + 1) 0 = get_or-drop first area (2 * j + 1) 0 ∙ ap (λ (k : ℕ). get_or area k 0) next in
-    let la : get_or area at 0 / 2 < n = omega (arith, ops.0, get_or-drop first area (2 * j) 0) in
-    let lb : get_or area (at + 1) 0 / 2 < n = omega (arith, ops.0, ops.1, get_or-drop first area (2 * j) 0, get_or-drop first area (2 * j + 1) 0) in
-    let va : x ≡ byte (lit u (get_or r (2 * j) 0)) = is_x ∙ ap byte (sym (lit_taken row n (get_or area at 0) la) ∙ ap (lit u) (sym ea)) in
-    let vb : y ≡ byte (lit u (get_or r (2 * j + 1) 0)) = is_y ∙ ap byte (sym (lit_taken row n (get_or area (at + 1) 0) lb) ∙ ap (lit u) (sym eb)) in
+    let ea : get_or r (2 * j) 0 ≡ a = get_or-drop first area (2 * j) 0 ∙ sym is_a in
+    let eb : get_or r (2 * j + 1) 0 ≡ b = get_or-drop first area (2 * j + 1) 0 ∙ sym is_b in
+    let la : a / 2 < n = omega (arith, ops.0) in
+    let lb : b / 2 < n = omega (arith, ops.0, ops.1) in
+    let va : x ≡ byte (lit u (get_or r (2 * j) 0)) = is_x ∙ ap byte (sym (lit_taken row n a la) ∙ ap (lit u) (sym ea)) in
+    let vb : y ≡ byte (lit u (get_or r (2 * j + 1) 0)) = is_y ∙ ap byte (sym (lit_taken row n b lb) ∙ ap (lit u) (sym eb)) in
     let z : bit_and x y ≡ byte (lit u (get_or r (2 * j) 0) && lit u (get_or r (2 * j + 1) 0)) = both va vb ∙ both_bytes (lit u (get_or r (2 * j) 0)) (lit u (get_or r (2 * j + 1) 0)) in
     let small = byte_small (lit u (get_or r (2 * j) 0) && lit u (get_or r (2 * j + 1) 0)) in
     let more = gate_more r row n j (bit_and x y) room (omega (arith, operands_length h area good whole)) z in

@@ -23,15 +23,9 @@ pub two_same : (x y : ℕ) (r : List ℕ) → x ≤ y → y ≤ x → x ∷ r �
 two_same x y r h k = sym (cond-false (ltb y x) (y ∷ x ∷ r) (x ∷ r) (le-ltb y x h)) ∙ two_not_less x y r k
 
 -- the third clause of a gate
-pub third : (gate a b place not_a not-b : ℕ) → place < 3 → (place ≡ 0 → ⊥) → (place ≡ 1 → ⊥) → not_a ≡ denial a → not-b ≡ denial b →
+pub third : (gate a b place not_a not-b : ℕ) → place ≡ 2 → not_a ≡ denial a → not-b ≡ denial b →
     two not_a not-b (gate ∷ []) ≡ get_or (clauses_of_gate gate a b) place []
-third gate a b zero not_a not-b h n0 n1 ea eb = absurd (n0 refl)
-third gate a b (suc zero) not_a not-b h n0 n1 ea eb = absurd (n1 refl)
-third gate a b (suc (suc zero)) not_a not-b h n0 n1 ea eb = same ea eb
-  where
-    same : {x x' y y' : ℕ} → x ≡ x' → y ≡ y' → two x y (gate ∷ []) ≡ two x' y' (gate ∷ [])
-    same e f = cc
-third gate a b (suc (suc (suc place))) not_a not-b h n0 n1 ea eb = absurd (omega arith)
+third gate a b place not_a not-b last ea eb = rw (last, ea, eb) refl
 
 -- clause 3j + place of the gates is the one at that place of gate j
 clause_at : (r : List ℕ) (v n j place : ℕ) → length r ≡ 2 * n → j < n → place < 3 →
@@ -71,23 +65,22 @@ module _ (h : Header) (area : List ℕ) (good : Good h area) (whole : length are
   clause_there : (c : ℕ) → (c ≡ 0 → ⊥) → (c - 1) / 3 < h.gates →
       entry (meant h area).clauses c
       ≡ Some (get_or (clauses_of_gate (gate_literal h ((c - 1) / 3))
-      (get_or area (h.latches + h.outputs + 2 * ((c - 1) / 3)) 0) (get_or area (h.latches + h.outputs + 2 * ((c - 1) / 3) + 1) 0)) ((c - 1) % 3) [])
+      (get_or area (h.latches + h.outputs + 2 * ((c - 1) / 3)) 0) (get_or area (h.latches + h.outputs + (2 * ((c - 1) / 3) + 1)) 0)) ((c - 1) % 3) [])
   clause_there c n low =
       let j : ℕ = (c - 1) / 3 in
       let place : ℕ = (c - 1) % 3 in
       let at : ℕ = h.latches + h.outputs in
       let v : ℕ = 1 + h.inputs + h.latches in
       let e : c ≡ suc (3 * j + place) = omega arith in
-      let next : at + (2 * j + 1) ≡ at + 2 * j + 1 = omega arith in
       entry_at (meant h area).clauses c [] (omega (arith, clauses_count h area good whole))
       ∙ ap Some (ap (λ (k : ℕ). get_or (meant h area).clauses k []) e ∙ clause_at (operands h area) v h.gates j place (operands_length h area good whole) low (omega arith)
-      ∙ same (2 * (v + j)) place (get_or-drop at area (2 * j) 0) (get_or-drop at area (2 * j + 1) 0 ∙ ap (λ (k : ℕ). get_or area k 0) next))
+      ∙ same (2 * (v + j)) place (get_or-drop at area (2 * j) 0) (get_or-drop at area (2 * j + 1) 0))
     where
       same : (gate place : ℕ) {x x' y y' : ℕ} → x ≡ x' → y ≡ y' → get_or (clauses_of_gate gate x y) place [] ≡ get_or (clauses_of_gate gate x' y') place []
       same gate place e f = cc
 
-  -- the same, said of a gate literal and a first operand that were computed
-  pub clause_gate : (c gate first : ℕ) → (c ≡ 0 → ⊥) → (c - 1) / 3 < h.gates → gate ≡ gate_literal h ((c - 1) / 3) → first ≡ h.latches + h.outputs →
-      entry (meant h area).clauses c
-      ≡ Some (get_or (clauses_of_gate gate (get_or area (first + 2 * ((c - 1) / 3)) 0) (get_or area (first + 2 * ((c - 1) / 3) + 1) 0)) ((c - 1) % 3) [])
-  clause_gate c gate first n low is_gate is_first = rw (is_gate, is_first) (clause_there c n low)
+  -- the same, said of a gate literal and operands that were computed
+  pub clause_gate : (c gate a b : ℕ) → (c ≡ 0 → ⊥) → (c - 1) / 3 < h.gates → gate ≡ gate_literal h ((c - 1) / 3) →
+      a ≡ get_or area (h.latches + h.outputs + 2 * ((c - 1) / 3)) 0 → b ≡ get_or area (h.latches + h.outputs + (2 * ((c - 1) / 3) + 1)) 0 →
+      entry (meant h area).clauses c ≡ Some (get_or (clauses_of_gate gate a b) ((c - 1) % 3) [])
+  clause_gate c gate a b n low is_gate is_a is_b = rw (is_gate, is_a, is_b) (clause_there c n low)

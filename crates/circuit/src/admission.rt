@@ -3,35 +3,43 @@ ghost use Rattle.std.specs.Prelude.{◌≡◌, ◌<◌, length};
 ghost use Rattle.aiger.specs.Numbers.{Admitted};
 ghost use Rattle.circuit.specs.Admission.{judged, gate_fits, heads_are_fit, gates_are_fit};
 
-use crate::gates::gate_literal;
+use crate::gates::{gate_literal, operands};
 use aiger::Header;
 use refusal::{TextFault, TextRefusal};
 
-// Whether next literals and outputs are literals of the circuit.
-fn heads_fit(header: Header, area: &[u32]) -> bool
-    requires { Admitted header (length area.now) }
-    ensures { result ≡ heads_are_fit header area.now }
-{
-    area[..header.heads()]
-        .iter()
-        .all(|literal| *literal <= 2 * header.maximum + 1)
+// A header within bounds, and an area with a place for each number.
+#[derive(Clone, Copy)]
+struct Numbers<'a> {
+    header: Header,
+    area: &'a [u32],
+    ghost admitted: { Admitted header (length area.now) },
 }
 
-// Whether the operands of a gate come before it, the greater first.
-fn gate_fits(header: Header, area: &[u32], gate: usize) -> bool
-    requires { Admitted header (length area.now) × (gate < header.gates) }
-    ensures { result ≡ gate_fits header area.now gate }
-{
-    let at = header.heads() + 2 * gate;
-    area[at] < gate_literal(header, gate) && area[at + 1] <= area[at]
-}
+impl<'a> Numbers<'a> {
+    // Whether next literals and outputs are literals of the circuit.
+    fn heads_fit(&self) -> bool
+        ensures { result ≡ heads_are_fit self.now.header self.now.area.now }
+    {
+        self.area[..self.header.heads()]
+            .iter()
+            .all(|literal| *literal <= 2 * self.header.maximum + 1)
+    }
 
-// Whether the operands of each gate do.
-fn gates_fit(header: Header, area: &[u32]) -> bool
-    requires { Admitted header (length area.now) }
-    ensures { result ≡ gates_are_fit header area.now }
-{
-    (0..header.gates as usize).all(|gate| gate_fits(header, area, gate))
+    // Whether the operands of a gate come before it, the greater first.
+    fn gate_fits(&self, gate: usize) -> bool
+        requires { gate < self.now.header.gates }
+        ensures { result ≡ gate_fits self.now.header self.now.area.now gate }
+    {
+        let (a, b) = operands(self.header, self.area, gate);
+        a < gate_literal(self.header, gate) && b <= a
+    }
+
+    // Whether the operands of each gate do.
+    fn gates_fit(&self) -> bool
+        ensures { result ≡ gates_are_fit self.now.header self.now.area.now }
+    {
+        (0..self.header.gates as usize).all(|gate| self.gate_fits(gate))
+    }
 }
 
 // Puts the questions on the numbers of a circuit, in order.
@@ -39,7 +47,8 @@ pub(crate) fn judge(header: Header, area: &[u32]) -> Result<(), TextRefusal>
     ensures { result ≡ judged header area.now }
 {
     header.admit(area.len()).map_err(|fault| fault.at(0))?;
-    if heads_fit(header, area) && gates_fit(header, area) {
+    let numbers = Numbers { header, area };
+    if numbers.heads_fit() && numbers.gates_fit() {
         Ok(())
     } else {
         Err(TextFault::Literal.at(0))

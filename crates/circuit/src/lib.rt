@@ -9,7 +9,7 @@ ghost use Rattle.aiger.proofs.Law.{circuit_lawful};
 
 use admission::judge;
 use aiger::Header;
-use gates::{gate_clause, gate_literal, value};
+use gates::{gate_clause, gate_literal, operands, value};
 use machine::{Clause, Machine, can_fill};
 use refusal::{DocketFault, TextRefusal};
 
@@ -104,9 +104,9 @@ impl<'a> Machine for Circuit<'a> {
         if gate >= self.header.gates as usize {
             return None;
         }
-        let at = self.header.heads() + 2 * gate;
         let literal = gate_literal(self.header, gate);
-        Some(gate_clause(literal, self.area[at], self.area[at + 1], (number - 1) % 3))
+        let (a, b) = operands(self.header, self.area, gate);
+        Some(gate_clause(literal, a, b, (number - 1) % 3))
     }
 
     fn fill(&self, row: &mut [u8]) -> Result<(), DocketFault> {
@@ -117,8 +117,8 @@ impl<'a> Machine for Circuit<'a> {
         row[0] = 0;
         // A gate reads what the gates before it wrote, so the row is filled place by place.
         for gate in 0..self.header.gates as usize {
-            let at = self.header.heads() + 2 * gate;
-            row[1 + given + gate] = value(row, self.area[at]) & value(row, self.area[at + 1]);
+            let (a, b) = operands(self.header, self.area, gate);
+            row[1 + given + gate] = value(row, a) & value(row, b);
         }
         Ok(())
     }

@@ -13,13 +13,12 @@ use Rattle.frames.specs.Held.{ended_frames, open_frame, open_clause}
 use Rattle.frames.specs.Writes.{Empty, OneLiteralMore, OneClauseMore, OneFrameMore}
 use Rattle.certificate.specs.declared.record.Record.{Record}
 use Rattle.certificate.specs.declared.record.Record.TheVariants.{FrameEnd}
-use Rattle.certificate.specs.Claims.{kind, claim_of}
+use Rattle.certificate.specs.Claims.{kind, claim_of, most}
 use Rattle.certificate.specs.declared.claim.Claim.{Claim}
 use Rattle.certificate.specs.declared.claim.Claim.TheVariants.{Trace, Induction, Counterexample}
 use Rattle.opening.specs.declared.phase.Phase.{Phase}
 use Rattle.opening.specs.declared.phase.Phase.TheVariants.{Framing, Opened}
 use Rattle.opening.specs.Steps.{framing, opened, room_in, is_next_literal, stands, claimed, literal_added, clause_ended, frame_ended, clause_count, literal_count}
-use Rattle.opening.specs.Openings.{most}
 use Rattle.opening.specs.Views.{held, Steady, Settled, Comes, Does}
 use Rattle.opening.proofs.HeldFrames.{held_count, empty_held, empty_frame, clauses_used, literals_used, same_held, more_held}
 

@@ -15,8 +15,8 @@ use Rattle.certificate.specs.declared.record.Record.TheVariants.{Claim as Claim-
 use Rattle.certificate.specs.declared.claim.Claim.{Claim}
 use Rattle.certificate.specs.declared.claim.Claim.TheVariants.{Trace, Induction, Counterexample}
 use Rattle.opening.specs.Steps.{Room, View, opening, framing, opened, clause_count, literal_count, is_next_literal, stands, claimed, literal_added, clause_ended, frame_ended, at_opening, at_framing, step}
-use Rattle.certificate.specs.Claims.{kind}
-use Rattle.opening.specs.Openings.{clause_records, frame_records, opening_records, frames_with, most as most-size, Proper}
+use Rattle.certificate.specs.Claims.{kind, most as most-size}
+use Rattle.opening.specs.Openings.{clause_records, frame_records, opening_records, frames_with, Proper}
 use Rattle.opening.proofs.Counts.{joined_push, literals_push, clauses_push, literals_clause, frame_push}
 use Rattle.opening.proofs.Orders.{next_rises}
 

@@ -11,7 +11,7 @@ use Rattle.certificate.specs.declared.cursor.Cursor.{Cursor}
 use Rattle.certificate.specs.declared.record.Record.{Record}
 use Rattle.certificate.specs.declared.record.Record.TheVariants.{Claim as Claim-record, Literal, ClauseEnd, FrameEnd}
 use Rattle.certificate.specs.Records.{encodes}
-use Rattle.certificate.specs.Claims.{kind}
+use Rattle.certificate.specs.Claims.{kind, most}
 use Rattle.certificate.specs.declared.claim.Claim.{Claim}
 use Rattle.certificate.specs.declared.claim.Claim.TheVariants.{Trace, Induction, Counterexample}
 use Rattle.opening.specs.declared.opening.Opening.{Opening}
@@ -36,12 +36,6 @@ abbrev pub frames_with : Claim → ℕ → ℕ
 frames_with Trace n = n + 1
 frames_with Induction n = 0
 frames_with Counterexample n = 0
-
--- the greatest size
-abbrev pub most : Claim → ℕ
-most Trace = 64
-most Induction = 64
-most Counterexample = 4096
 
 -- a claim with frames that may stand in an opening, and for which there is room
 pub record Proper (m : Meaning) (room : Room) (claim : Claim) (size : ℕ) (frames : List (List (List ℕ))) : Type 0 where

@@ -57,6 +57,11 @@ pub record Comes (r : Result Phase CertificateFault) (f : Frames) (ls : List ℕ
 abbrev pub Does : Meaning → Phase → Record → Frames → List ℕ → List Span → Result Phase CertificateFault → Frames → List ℕ → List Span → Type 0
 Does m p r f ls ps answer g ms qs = Steady p f ls ps → Comes answer g ms qs (step m (room_in (length ls) (length ps)) (view p f ls ps) r)
 
+-- the answer of a step that goes on in the frames of a trace, or is refused
+abbrev pub framing_on : ℕ → Result (Unit {0}) CertificateFault → Result Phase CertificateFault
+framing_on size (Ok _) = Ok (Framing size)
+framing_on size (Err f) = Err f
+
 -- the claim leaves them as they are
 abbrev pub Claimed : ℕ → ℕ → Result Phase CertificateFault → Type 0
 Claimed claim n answer = (m : Meaning) (f : Frames) (ls : List ℕ) (ps : List Span) → Does m Opening (Claim claim n) f ls ps answer f ls ps

@@ -8,8 +8,7 @@ ghost use Rattle.frames.specs.Held.{ended_frames, open_clause};
 ghost use Rattle.certificate.specs.declared.record.Record.TheVariants.{Literal, ClauseEnd, FrameEnd};
 ghost use Rattle.opening.specs.declared.phase.Phase.TheVariants.{Framing};
 ghost use Rattle.opening.specs.Steps.{is_next_literal};
-ghost use Rattle.opening.specs.Openings.{most};
-ghost use Rattle.opening.specs.Views.{Claimed, Does};
+ghost use Rattle.opening.specs.Views.{framing_on, Claimed, Does};
 
 use crate::phase::Phase;
 use crate::start;
@@ -20,22 +19,12 @@ use refusal::CertificateFault;
 use resolution::is_above;
 use stack::Span;
 
-// The greatest size of a claim.
-fn most(claim: Claim) -> u32
-    ensures { result ≡ most claim }
-{
-    match claim {
-        Claim::Trace | Claim::Induction => 64,
-        Claim::Counterexample => 4096,
-    }
-}
-
 // The claim: a trace or an induction of 1 to 64, a counterexample of 1 to 4,096 rows.
 fn claimed(claim: u8, size: u32) -> Result<Phase, CertificateFault>
     ensures { Claimed claim size result }
 {
     let claim = Claim::try_from(claim)?;
-    if size < 1 || size > most(claim) {
+    if size < 1 || size > claim.most() {
         return Err(CertificateFault::WrongNumber);
     }
     match claim {
@@ -56,18 +45,17 @@ fn is_next<M: Machine>(machine: &M, clause: &[u32], literal: u32) -> bool
 // One literal more in the open clause.
 fn add_literal<M: Machine>(
     machine: &M,
-    size: u32,
     literal: u32,
     frames: &mut Frames,
     literals: &mut [u32],
-) -> Result<Phase, CertificateFault>
-    ensures { (ps : List Entry) → Does (M.meaning machine.now) (Framing size) (Literal literal) frames.old literals.old ps result frames.new literals.new ps }
+) -> Result<(), CertificateFault>
+    ensures { (size : ℕ) (ps : List Entry) → Does (M.meaning machine.now) (Framing size) (Literal literal) frames.old literals.old ps (framing_on size result) frames.new literals.new ps }
 {
     if !is_next(machine, frames.open(literals), literal) {
         return Err(CertificateFault::WrongNumber);
     }
     frames.push(literal, literals)?;
-    Ok(Phase::Framing { size })
+    Ok(())
 }
 
 // Whether a clause may stand in the open frame: in the first one it must hold in the start.
@@ -80,19 +68,18 @@ fn may_stand<M: Machine>(machine: &M, frames: &Frames, clause: &[u32]) -> bool
 // The end of the open clause.
 fn end_clause<M: Machine>(
     machine: &M,
-    size: u32,
     frames: &mut Frames,
     literals: &[u32],
     spans: &mut [Span],
-) -> Result<Phase, CertificateFault>
-    ensures { Does (M.meaning machine.now) (Framing size) ClauseEnd frames.old literals.now spans.old result frames.new literals.now spans.new }
+) -> Result<(), CertificateFault>
+    ensures { (size : ℕ) → Does (M.meaning machine.now) (Framing size) ClauseEnd frames.old literals.now spans.old (framing_on size result) frames.new literals.now spans.new }
 {
     let stands = may_stand(machine, frames, frames.open(literals));
     frames.end_clause(spans)?;
     if !stands {
         return Err(CertificateFault::NotAtStart);
     }
-    Ok(Phase::Framing { size })
+    Ok(())
 }
 
 // The end of the open frame, where no clause is open; after the last one the opening is over.
@@ -100,7 +87,7 @@ fn end_frame(size: u32, frames: &mut Frames) -> Result<Phase, CertificateFault>
     ensures { (m : Meaning) (ls : List ℕ) (ps : List Entry) → length (open_clause frames.old ls) ≡ 0 → Does m (Framing size) FrameEnd frames.old ls ps result frames.new ls ps }
 {
     let last = frames.count() >= size as usize;
-    // never refused: there are at most 65 frames
+    // never refuses: at most 64 frames are ended here, and 65 fit
     frames.end_frame()?;
     if last {
         return Ok(Phase::Opened {
@@ -125,12 +112,14 @@ pub(crate) fn step<M: Machine>(
     let open = frames.open(literals).len();
     match (record, phase) {
         (Record::Claim { claim, size }, Phase::Opening) => claimed(claim, size),
-        (Record::Literal(literal), Phase::Framing { size }) => add_literal(
-            machine, size, literal, frames, literals,
-        ),
-        (Record::ClauseEnd, Phase::Framing { size }) => end_clause(
-            machine, size, frames, literals, spans,
-        ),
+        (Record::Literal(literal), Phase::Framing { size }) => {
+            add_literal(machine, literal, frames, literals)?;
+            Ok(Phase::Framing { size })
+        }
+        (Record::ClauseEnd, Phase::Framing { size }) => {
+            end_clause(machine, frames, literals, spans)?;
+            Ok(Phase::Framing { size })
+        }
         (Record::FrameEnd, Phase::Framing { size }) if open == 0 => end_frame(size, frames),
         _ => Err(CertificateFault::OutOfPlace),
     }

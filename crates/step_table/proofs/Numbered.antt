@@ -7,8 +7,8 @@ use Rattle.std.proofs.lemmas.List.FromFn.{length-map-range_with_len, get_or-map-
 use Rattle.machine.specs.Lists.{entry}
 use Rattle.machine.proofs.Entries.{entry_at, entry_past}
 use Rattle.table_format.specs.Tables.{Table, rows}
-use Rattle.table_format.specs.Stepping.{row_clauses, meant}
-use Rattle.table_format.proofs.RowClauses.{clauses_per_row, clauses_count, clause_at, clause_within}
+use Rattle.table_format.specs.Stepping.{row_clauses, clauses_per_row, meant}
+use Rattle.table_format.proofs.RowClauses.{clauses_count, clause_at, clause_within}
 
 -- an entry of a list that is made number by number
 made_at : (f : ℕ → ℕ) (n i : ℕ) → i < n → entry (map f (range_with_len 0 n)) i ≡ Some (f i)

@@ -69,7 +69,7 @@ impl<'a> Machine for StepTable<'a> {
     }
 
     fn clauses(&self) -> usize {
-        1 + self.rows() * self.per_row()
+        1 + self.rows() * self.clauses_per_row()
     }
 
     fn start_bit(&self, bit: usize) -> Option<bool> {
@@ -90,7 +90,7 @@ impl<'a> Machine for StepTable<'a> {
         if number == 0 {
             return Some(Clause::of(&[1]));
         }
-        let per_row = self.per_row();
+        let per_row = self.clauses_per_row();
         let row = self.row((number - 1) / per_row)?;
         Some(row.clause((number - 1) % per_row))
     }

@@ -3,12 +3,13 @@ ghost use Rattle.std.specs.Prelude.{◌≡◌, ℕ, ◌+◌, ◌*◌, ◌<◌, �
 ghost use Rattle.resolution.specs.Clauses.{denial};
 ghost use Rattle.machine.specs.Clauses.{listed};
 ghost use Rattle.table_format.specs.Tables.{rows, table_of};
-ghost use Rattle.table_format.specs.Stepping.{row_variable, given_literals, row_clauses};
+ghost use Rattle.table_format.specs.Stepping.{row_variable, given_literals, row_clauses, clauses_per_row};
 
 use crate::literals::literal;
 use crate::table::StepTable;
 use machine::{Clause, Machine};
 use resolution::deny;
+use table_format::{ROW_LENGTH, SIZES_LENGTH};
 
 // A row that a step table has, by its number.
 #[derive(Clone, Copy)]
@@ -21,12 +22,11 @@ pub(crate) struct Row<'a> {
 impl<'a> Row<'a> {
     // So many of the row's bytes, from a place among them on.
     fn bytes_at<const N: usize>(&self, place: usize) -> [u8; N]
-        requires { place + N ≤ 7 }
-        ensures { (k : ℕ) → k < N → slice_index result k ≡ slice_index self.now.table.bytes.now (4 + 7 * self.now.number + place + k) }
+        requires { place + N ≤ ROW_LENGTH }
+        ensures { (k : ℕ) → k < N → slice_index result k ≡ slice_index self.now.table.bytes.now (SIZES_LENGTH + ROW_LENGTH * self.now.number + place + k) }
     {
-        *self.table.bytes[4 + 7 * self.number + place..]
-            .first_chunk()
-            .unwrap()
+        let first = SIZES_LENGTH + ROW_LENGTH * self.number;
+        *self.table.bytes[first + place..].first_chunk().unwrap()
     }
 
     // The next state, as a number.
@@ -66,7 +66,7 @@ impl<'a> Row<'a> {
 
     // A clause of the row, by its place among them.
     pub(crate) fn clause(&self, place: usize) -> Clause
-        requires { place < (table_of self.now.table.bytes.now).inputs + 2 * (table_of self.now.table.bytes.now).state_bits + 1 + (table_of self.now.table.bytes.now).rules }
+        requires { place < clauses_per_row (table_of self.now.table.bytes.now) }
         ensures { listed result ≡ slice_index_or (row_clauses (table_of self.now.table.bytes.now) self.now.number) place [] }
     {
         let given = self.table.given();

@@ -1,7 +1,7 @@
 // How many rows a step table has, and what stands for each.
 ghost use Rattle.std.specs.Prelude.{◌≡◌, ◌+◌, ◌*◌, ◌≤◌, MatchOption};
 ghost use Rattle.table_format.specs.Tables.{rows, table_of};
-ghost use Rattle.table_format.specs.Stepping.{row_variable};
+ghost use Rattle.table_format.specs.Stepping.{row_variable, clauses_per_row};
 
 use crate::row::Row;
 use crate::table::StepTable;
@@ -23,8 +23,8 @@ impl<'a> StepTable<'a> {
     }
 
     // How many clauses each row has.
-    pub(crate) fn per_row(&self) -> usize
-        ensures { result ≡ (table_of self.now.bytes.now).inputs + 2 * (table_of self.now.bytes.now).state_bits + 1 + (table_of self.now.bytes.now).rules }
+    pub(crate) fn clauses_per_row(&self) -> usize
+        ensures { result ≡ clauses_per_row (table_of self.now.bytes.now) }
     {
         self.given() + 1 + self.state_bits() + self.rules()
     }

@@ -9,10 +9,10 @@ use Rattle.resolution.specs.Clauses.{literal_true, denial, Rising}
 use Rattle.resolution.proofs.Settings.{true_twice, denial_near}
 use Rattle.machine.specs.Meaning.{Lawful, Fits, lit, sat}
 use Rattle.table_format.specs.Tables.{Table, Bounded, rows}
-use Rattle.table_format.specs.Stepping.{binary_digit, valued, row_of, row_variable, next_variable, rule_variable, meant, fitting}
+use Rattle.table_format.specs.Stepping.{binary_digit, valued, row_of, row_variable, next_variable, rule_variable, clauses_per_row, meant, fitting}
 use Rattle.resolution.proofs.Rises.{rising_by_steps}
 use Rattle.table_format.proofs.Literals.{models_at, valued_near, from_valued}
-use Rattle.table_format.proofs.RowClauses.{clauses_per_row, meeting, meeting_length, meeting_given, meeting_last, clauses_count, each_clause}
+use Rattle.table_format.proofs.RowClauses.{meeting, meeting_length, meeting_given, meeting_last, clauses_count, each_clause}
 use Rattle.table_format.proofs.OneFit.{fitting_fits, next_value, rule_value, fit_is}
 
 -- what the law asks of each clause

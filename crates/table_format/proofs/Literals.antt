@@ -1,7 +1,7 @@
 -- Clauses by the places of their literals, and literals that give a variable a value.
-use Rattle.std.proofs.Common.{◌≡◌, ℕ, zero, suc, ◌+◌, ◌*◌, ◌<◌, ◌≤◌, Bool, true, false, not, ltb, List, [], ◌∷◌, length, get_or, sym, refl, ap, ◌∙◌, ⊎_elim, arith}
-use Rattle.std.proofs.lemmas.Bool.{and_from, or_left, or_right, or_from, or_parts, lt-ltb, not-true, not-false, cases_Bool, true≢false}
-use Rattle.resolution.specs.Clauses.{literal_true, denial, holds, models, Rising}
+use Rattle.std.proofs.Common.{◌≡◌, ℕ, zero, suc, ◌+◌, ◌*◌, ◌<◌, ◌≤◌, Bool, true, false, not, List, [], ◌∷◌, length, get_or, sym, refl, ap, ◌∙◌, ⊎_elim, arith}
+use Rattle.std.proofs.lemmas.Bool.{and_from, or_left, or_right, or_from, or_parts, not-true, not-false, cases_Bool, true≢false}
+use Rattle.resolution.specs.Clauses.{literal_true, denial, holds, models}
 use Rattle.resolution.specs.States.{Implied}
 use Rattle.resolution.proofs.Laws.{implied_member}
 use Rattle.resolution.proofs.Settings.{true_twice, true_twice_odd, denial_flips}

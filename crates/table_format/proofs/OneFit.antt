@@ -6,10 +6,10 @@ use Rattle.resolution.specs.Clauses.{holds}
 use Rattle.resolution.proofs.Settings.{true_twice, true_twice_odd}
 use Rattle.machine.specs.Meaning.{Fits, lit, sat}
 use Rattle.table_format.specs.Tables.{Table, rows}
-use Rattle.table_format.specs.Stepping.{binary_digit, valued, row_of, row_variable, next_variable, rule_variable, row_clauses, meant, fitting}
+use Rattle.table_format.specs.Stepping.{binary_digit, valued, row_of, row_variable, next_variable, rule_variable, row_clauses, clauses_per_row, meant, fitting}
 use Rattle.table_format.proofs.Numbers.{row_bit, row_below, row_from_bits}
 use Rattle.table_format.proofs.Literals.{holds_from, fails_at, fails_from, models_at, models_from, first_holds, second_holds, valued_true, from_valued, denied_false, from_denied}
-use Rattle.table_format.proofs.RowClauses.{clauses_per_row, meeting, given_clause, meeting_clause, next_clause, rule_clause, meeting_length, meeting_given, meeting_last, clause_at, clause_within, each_clause}
+use Rattle.table_format.proofs.RowClauses.{meeting, given_clause, meeting_clause, next_clause, rule_clause, meeting_length, meeting_given, meeting_last, clause_at, clause_within, each_clause}
 use Rattle.table_format.proofs.FitValues.{each_variable, front_given, front_zero, fitting_length, fitting_front, fitting_given, fitting_row, fitting_next, fitting_rule}
 
 -- a literal of a row's variable

@@ -7,12 +7,8 @@ use Rattle.std.proofs.lemmas.List.{length-append, length_push, length-map, get_o
 use Rattle.std.proofs.lemmas.Bool.{cases_lt, cases_eq}
 use Rattle.resolution.specs.Clauses.{denial}
 use Rattle.table_format.specs.Tables.{Table, rows}
-use Rattle.table_format.specs.Stepping.{binary_digit, valued, row_variable, next_variable, rule_variable, given_literals, outcome_literals, row_clauses, meant}
+use Rattle.table_format.specs.Stepping.{binary_digit, valued, row_variable, next_variable, rule_variable, given_literals, outcome_literals, row_clauses, clauses_per_row, meant}
 use Rattle.table_format.proofs.Pieces.{length_joined, get_or_joined}
-
--- how many clauses each row has
-abbrev pub clauses_per_row : Table → ℕ
-clauses_per_row t = t.inputs + 2 * t.state_bits + 1 + t.rules
 
 -- the clause of a row that makes its variable true
 abbrev pub meeting : Table → ℕ → List ℕ

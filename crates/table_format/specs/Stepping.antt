@@ -50,6 +50,10 @@ row_clauses t r =
     ++ (map denial (given_literals t r) ++ (2 * row_variable t r) ∷ []) ∷
     map (λ l. (2 * row_variable t r + 1) ∷ l ∷ []) (outcome_literals t r)
 
+-- how many clauses each row has
+abbrev pub clauses_per_row : Table → ℕ
+clauses_per_row t = t.inputs + 2 * t.state_bits + 1 + t.rules
+
 -- a table as a machine: it starts with all bits false, and the row of state and inputs gives next state and broken rules
 abbrev pub meant : Table → Meaning
 meant t = record {

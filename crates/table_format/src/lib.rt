@@ -14,6 +14,12 @@ mod sizes;
 #[cfg(test)]
 mod tests;
 
+// How many bytes stand before the first row: the record of the sizes.
+pub const SIZES_LENGTH: usize = 4;
+
+// How many bytes each row is.
+pub const ROW_LENGTH: usize = 7;
+
 // Puts the questions on a table's bytes, in order; yes to all exactly where they are a table within bounds.
 pub fn examine(bytes: &[u8]) -> Result<(), TableRefusal>
     ensures answer { result ≡ read bytes.now }
@@ -23,7 +29,7 @@ pub fn examine(bytes: &[u8]) -> Result<(), TableRefusal>
     let (sizes, mut rest) = Sizes::first(bytes).map_err(|fault| fault.at(0))?;
     let rows = sizes.rows();
     for r in 0..rows {
-        rest = row(sizes, rest).map_err(|fault| fault.at(4 + 7 * r))?;
+        rest = row(sizes, rest).map_err(|fault| fault.at(SIZES_LENGTH + ROW_LENGTH * r))?;
     }
-    end(rest, 4 + 7 * rows)
+    end(rest, SIZES_LENGTH + ROW_LENGTH * rows)
 }

@@ -20,7 +20,7 @@ fn fit(inputs: u8, state_bits: u8, rules: u8) -> bool
     ensures { result ≡ (nat_le (inputs + state_bits) 10 && (nat_le 1 rules && nat_le rules 32)) }
 {
     let bits = u16::from(inputs) + u16::from(state_bits);
-    bits <= 10 && 1 <= rules && rules <= 32
+    bits <= 10 && (1..=32).contains(&rules)
 }
 
 impl Sizes {

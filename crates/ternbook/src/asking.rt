@@ -1,6 +1,7 @@
 // The call that asks for a question of a certificate.
 use crate::session::Session;
 use crate::stop::Stop;
+use anyhow::anyhow;
 use calls::{Answer, ClauseLine, Lengths};
 use certificate::Cursor;
 use checking::admit;
@@ -66,10 +67,11 @@ impl Session<'_> {
         for number in 0..clauses {
             let mut stack = used;
             // never refused: behind the lent area there is room for the longest clause
-            let _ = list.copy(number, &mut stack, literals, spans);
+            list.copy(number, &mut stack, literals, spans)
+                .map_err(|_| anyhow!("no room for clause {number}"))?;
             let text = ClauseLine {
                 number,
-                literals: literals.get(used.used..stack.used).unwrap_or(&[]),
+                literals: literals.get(used.used..stack.used).unwrap_or_default(),
             };
             println!(self.rt; "{text}")?;
         }

@@ -1,7 +1,17 @@
 // What the lines so far have left, and how each answer is printed.
 use calls::{Answer, Lengths};
+use stack::{MOST_LITERALS, MOST_SPANS};
 use std::fs;
 use std::io::Write;
+
+// The lengths until a line sets others: the bytes of a row, and the longest areas of a stack.
+pub(crate) fn first_lengths(bytes: u32) -> Lengths {
+    Lengths {
+        bytes,
+        literals: MOST_LITERALS as u32,
+        places: MOST_SPANS as u32,
+    }
+}
 
 // The kinds of machine that a line can open.
 #[derive(Clone, Copy)]
@@ -24,6 +34,17 @@ pub(crate) struct Session<'r> {
     pub(crate) rt: &'r HostRuntime,
     pub(crate) lengths: Lengths,
     pub(crate) all_carried_out: bool,
+}
+
+impl<'r> Session<'r> {
+    // No line is carried out, and no machine is open.
+    pub(crate) fn new(rt: &'r HostRuntime) -> Session<'r> {
+        Session {
+            rt,
+            lengths: first_lengths(0),
+            all_carried_out: true,
+        }
+    }
 }
 
 impl Session<'_> {

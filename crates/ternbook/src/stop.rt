@@ -1,17 +1,16 @@
 // Why a call ends before it is carried out.
-use crate::session::Kind;
+use crate::session::Load;
 use calls::Answer;
 use refusal::{DocketFault, Refusal};
 use refutation_files::Unproved;
 use std::alloc::AllocError;
-use std::io;
 
 #[derive(Drop)]
 pub(crate) enum Stop<'a> {
     // with an answer that says why
     Answered(Answer<'a>),
-    // since it opens a machine of a kind from a file
-    Opens(Kind, &'a [u8]),
+    // since its line opens a machine
+    Opens(Load<'a>),
     // since the program cannot go on
     Failed(anyhow::Error),
 }
@@ -47,12 +46,6 @@ impl From<Unproved> for Stop<'_> {
 
 impl From<AllocError> for Stop<'_> {
     fn from(error: AllocError) -> Self {
-        Stop::Failed(error.into())
-    }
-}
-
-impl From<io::Error> for Stop<'_> {
-    fn from(error: io::Error) -> Self {
         Stop::Failed(error.into())
     }
 }

@@ -16,4 +16,5 @@ pub returns : goal.returns
 returns c =
     let self = c.args.self.now in
     ap Some c.gate_clause.ensures
-    ∙ sym (clause_gate self.header self.area.now self.good self.whole c.args.number c.gate_literal-literal.result c.heads.result c.if-number-eq0.false c.if-gate-self.false c.gate_literal-literal.ensures c.heads.ensures)
+    ∙ sym (clause_gate self.header self.area.now self.good self.whole c.args.number c.gate_literal-literal.result c.operands-a.result.0 c.operands-a.result.1 c.if-number-eq0.false c.if-gate-self.false
+    c.gate_literal-literal.ensures c.operands-a.ensures.greater c.operands-a.ensures.less)

@@ -17,8 +17,8 @@ loop-gate-preserved c =
     let n = 1 + c.given-given.result + j in
     let can = c.can_fill.ensures.yes c.if-not-can_fill.false in
     let room : n < length row = omega (arith, length-set c.args.row.now 0 0, can.0, self.good.0.0, c.given-given.ensures, c.variables.ensures) in
-    gates_more self.header self.area.now _ row j n _ _ _ self.good self.whole c.loop-gate.invariant c.loop-gate-test.true
-    (omega (arith, c.given-given.ensures)) (omega (arith, c.heads.ensures)) room c.value.ensures c.value-in-loop-gate.ensures
+    gates_more self.header self.area.now _ row j n _ _ _ _ self.good self.whole c.loop-gate.invariant c.loop-gate-test.true
+    (omega (arith, c.given-given.ensures)) c.operands-a.ensures.greater c.operands-a.ensures.less room c.value.ensures c.value-in-loop-gate.ensures
 
 pub returns : goal.returns
 returns c =

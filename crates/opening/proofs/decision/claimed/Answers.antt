@@ -1,5 +1,5 @@
 use Rattle.std.proofs.Common.{◌≡◌, ◌<◌, ◌⊎◌, Err, inl, inr, sym, ◌∙◌, arith, rules}
-use Rattle.opening.specs.Openings.{most}
+use Rattle.certificate.specs.Claims.{most}
 use Rattle.opening.proofs.Arms.{claim_known, fresh_unknown, fresh_outside, fresh_trace, fresh_opened}
 use Rattle.opening.proofs.decision.claimed.Goals as goal
 use Rattle.opening.proofs.decision.claimed.Goals.{then-size-lt1-via-then-size-lt1, then-size-lt1-via-else-size-lt1+then-size-most}

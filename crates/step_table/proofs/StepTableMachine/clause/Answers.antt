@@ -15,7 +15,7 @@ returns-in_err-row c =
     let t = table_of c.args.self.now.bytes.now in
     let past = c.in_err-row.ensures in
     ap (option_map listed) c.from_residual.ensures
-    ∙ sym (clause_past t c.args.number c.per_row-per_row.result c.per_row-per_row.ensures c.if-number-eq0.false past)
+    ∙ sym (clause_past t c.args.number c.clauses_per_row-per_row.result c.clauses_per_row-per_row.ensures c.if-number-eq0.false past)
 
 pub returns : goal.returns
 returns c =
@@ -23,5 +23,5 @@ returns c =
     let row = c.in_ok-row.row in
     let found = c.in_ok-row.ensures in
     ap Some c.clause.ensures
-    ∙ sym (clause_found t c.args.number c.per_row-per_row.result c.per_row-per_row.ensures c.if-number-eq0.false
+    ∙ sym (clause_found t c.args.number c.clauses_per_row-per_row.result c.clauses_per_row-per_row.ensures c.if-number-eq0.false
     (table_of row.table.bytes.now) row.number (ap (λ (s : StepTable). table_of s.bytes.now) found.0) found.1 row.within)

@@ -4,12 +4,12 @@ use Rattle.std.proofs.lemmas.Iterator.{cases_from_all, YieldsList-from_slice}
 use Rattle.std.proofs.lemmas.List.{length-take-le, get_or-take}
 use Rattle.circuit.specs.Admission.{head_fits}
 use Rattle.circuit.proofs.Judged.{below_from_cases}
-use Rattle.circuit.proofs.admission.heads_fit.Goals as goal
+use Rattle.circuit.proofs.admission.Numbers.heads_fit.Goals as goal
 
 pub returns : goal.returns
 returns c =
-    let h = c.args.header in
-    let area = c.args.area.now in
+    let h = c.args.self.now.header in
+    let area = c.args.self.now.area.now in
     let top = 2 * h.maximum + 1 in
     let cases = cases_from_all _ _ _ (λ x. x ≤ top) (λ x. top < x) c.all.ensures.ran (YieldsList-from_slice (take c.heads.result area) cc) (λ x q k. search (rules, tests)) (λ x q k. search (rules, tests)) in
     below_from_cases _ _ 0 (h.latches + h.outputs) (head_fits h area) (λ x. x ≤ top) (λ x. top < x)

@@ -32,14 +32,16 @@ fn read_clause(cursor: &mut Cursor, literals: &mut Vec<u32>) -> Result<(), Unpro
     }
 }
 
-// The span of the literals from a place up to another; one that no 32 bits hold is refused as memory that lacks.
+// The span of the literals from a place up to another; literals past 2^32 cannot be spanned, and are refused as memory that lacks.
 fn span(start: usize, end: usize) -> Result<Span, AllocError>
     requires { start ≤ end }
     ensures { IfOk result (λ s. (s.start ≡ start) × (s.length ≡ end - start)) }
 {
+    let end = u32::try_from(end).map_err(|_| AllocError)?;
+    let start = start as u32;
     Ok(Span {
-        start: u32::try_from(start).map_err(|_| AllocError)?,
-        length: u32::try_from(end - start).map_err(|_| AllocError)?,
+        start,
+        length: end - start,
     })
 }
 

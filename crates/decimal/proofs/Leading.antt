@@ -1,23 +1,26 @@
 -- The digits that a text begins with, a byte at a time.
-use Rattle.std.proofs.Common.{◌≡◌, ℕ, ◌+◌, ◌-◌, ◌*◌, ◌^◌, ◌<◌, ◌≤◌, List, [], ◌∷◌, length, get_or, take, drop, None, sym, refl, ap, ◌∙◌, arith, cond}
-use Rattle.std.proofs.lemmas.Bool.{and_parts, leb-true, le-ltb, cond-false}
-use Rattle.std.proofs.lemmas.List.Sums.{prefix_len_passes, take_while-cons}
-use Rattle.std.proofs.lemmas.List.{length-take, get_or-take, drop_more}
-use Rattle.std.specs.List.{prefix_len}
-use Rattle.decimal.specs.Number.{is_digit, leading, value_on, fitting}
+use Rattle.std.proofs.Common.{◌≡◌, ℕ, ◌+◌, ◌-◌, ◌*◌, ◌^◌, ◌<◌, ◌≤◌, List, [], ◌∷◌, length, get_or, drop, Some, None, sym, ap, ◌∙◌, arith}
+use Rattle.std.proofs.lemmas.Bool.Decides.{nat_tests}
+use Rattle.std.proofs.lemmas.Bool.{le-ltb, lt-ltb, cond-true, cond-false}
+use Rattle.std.proofs.lemmas.List.{drop_more, drop_all}
+use Rattle.decimal.specs.Number.{leading, value_on, fitting}
 
--- they are as many as pass the test in a row
-pub leading_prefix : (text : List ℕ) → take (prefix_len is_digit text) text ≡ leading text
-leading_prefix [] = refl
-leading_prefix (c ∷ cs) = take_while-cons is_digit c cs ∙ ap (λ (l : List ℕ). cond (is_digit c) (c ∷ l) []) (leading_prefix cs)
+digit_here : (c : ℕ) (cs : List ℕ) → 48 ≤ c → c ≤ 57 → leading (c ∷ cs) ≡ c ∷ leading cs
+digit_here c cs lo hi = grind (arith, nat_tests)
 
--- each of them is a digit
-pub digit_at : (text : List ℕ) (k : ℕ) → k < length (leading text) → 48 ≤ get_or (leading text) k 0
-digit_at text k l =
-    let n = prefix_len is_digit text in
-    let within : k < n = omega (arith, ap length (leading_prefix text), length-take n text) in
-    let here : get_or (leading text) k 0 ≡ get_or text k 0 = ap (λ (l : List ℕ). get_or l k 0) (sym (leading_prefix text)) ∙ get_or-take n text k 0 within in
-    rw here (leb-true 48 _ (and_parts _ _ (prefix_len_passes is_digit text k 0 within)).0)
+-- a digit stands at e
+pub leading_more : (text : List ℕ) (e : ℕ) → e < length text → 48 ≤ get_or text e 0 → get_or text e 0 ≤ 57
+    → leading (drop e text) ≡ get_or text e 0 ∷ leading (drop (e + 1) text)
+leading_more text e l lo hi = ap leading (drop_more text e 0 l) ∙ digit_here (get_or text e 0) (drop (e + 1) text) lo hi
+
+pub leading_low : (text : List ℕ) (e : ℕ) → e < length text → get_or text e 0 < 48 → leading (drop e text) ≡ []
+leading_low text e l h = ap leading (drop_more text e 0 l) ∙ grind (arith, nat_tests)
+
+pub leading_high : (text : List ℕ) (e : ℕ) → e < length text → 57 < get_or text e 0 → leading (drop e text) ≡ []
+leading_high text e l h = ap leading (drop_more text e 0 l) ∙ grind (arith, nat_tests)
+
+pub leading_end : (text : List ℕ) (e : ℕ) → length text ≤ e → leading (drop e text) ≡ []
+leading_end text e h = ap leading (drop_all e text h)
 
 -- more digits never make a value smaller
 pub value_grows : (v : ℕ) (ds : List ℕ) → v ≤ value_on v ds
@@ -25,8 +28,16 @@ value_grows v [] = omega arith
 value_grows v (c ∷ cs) = omega (arith, value_grows (v * 10 + (c - 48)) cs)
 
 -- a digit more makes the value too large
-pub too_large : (ds : List ℕ) (i value : ℕ) → i < length ds → value_on value (drop i ds) ≡ value_on 0 ds → 2 ^ 32 ≤ value * 10 + (get_or ds i 0 - 48) →
-    fitting ds ≡ None
-too_large ds i value l inv big =
-    let step = ap (value_on value) (drop_more ds i 0 l) in
-    cond-false _ _ _ (le-ltb (value_on 0 ds) (2 ^ 32) (omega (arith, step, value_grows (value * 10 + (get_or ds i 0 - 48)) (drop (i + 1) ds))))
+pub too_large : (text : List ℕ) (i value : ℕ) → i < length text → 48 ≤ get_or text i 0 → get_or text i 0 ≤ 57
+    → value_on value (leading (drop i text)) ≡ value_on 0 (leading text) → 2 ^ 32 ≤ value * 10 + (get_or text i 0 - 48)
+    → 2 ^ 32 ≤ value_on 0 (leading text)
+too_large text i value l lo hi inv big =
+    let step = ap (value_on value) (leading_more text i l lo hi) in
+    omega (arith, inv, step, value_grows (value * 10 + (get_or text i 0 - 48)) (leading (drop (i + 1) text)))
+
+pub fitting_none : (ds : List ℕ) → 2 ^ 32 ≤ value_on 0 ds → None ≡ fitting ds
+fitting_none ds h = sym (cond-false _ _ _ (le-ltb (value_on 0 ds) (2 ^ 32) h))
+
+pub fitting_some : (ds : List ℕ) (v k : ℕ) → v ≡ value_on 0 ds → k ≡ length ds → v < 2 ^ 32 → Some (v, k) ≡ fitting ds
+fitting_some ds v k e s h =
+    ap (λ (p : ℕ × ℕ). Some p) (let q : (v, k) ≡ (value_on 0 ds, length ds) = cc in q) ∙ sym (cond-true _ _ _ (lt-ltb (value_on 0 ds) (2 ^ 32) (omega arith)))

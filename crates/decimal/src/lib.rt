@@ -7,24 +7,20 @@ ghost use Rattle.decimal.specs.Number.{leading, fitting, plain, number_of, Numbe
 #[cfg(test)]
 mod tests;
 
-// The digits that the text begins with.
-fn leading_digits(text: &[u8]) -> &[u8]
-    ensures { result.now ≡ leading text.now }
-{
-    let size = text.iter().take_while(|byte| byte.is_ascii_digit()).count();
-    &text[..size]
-}
-
 // The value and the count of the digits that the text begins with, where the value fits.
 fn digits(text: &[u8]) -> Option<(u32, usize)>
     ensures { result ≡ fitting (leading text.now) }
 {
-    let digits = leading_digits(text);
     let mut value: u32 = 0;
-    for digit in digits {
-        value = value.checked_mul(10)?.checked_add(u32::from(digit - b'0'))?;
+    let mut size = 0;
+    for byte in text {
+        if !byte.is_ascii_digit() {
+            break;
+        }
+        value = value.checked_mul(10)?.checked_add(u32::from(byte - b'0'))?;
+        size += 1;
     }
-    Some((value, digits.len()))
+    Some((value, size))
 }
 
 // No zero stands in front of other digits.

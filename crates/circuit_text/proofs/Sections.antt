@@ -4,7 +4,7 @@ use Rattle.std.proofs.lemmas.List.{drop-drop}
 use Rattle.refusal.specs.declared.faults.TextFault.{TextFault}
 use Rattle.refusal.specs.declared.faults.TextRefusal.{TextRefusal}
 use Rattle.aiger.specs.declared.header.Header.{Header}
-use Rattle.aiger.specs.Numbers.{Admitted}
+use Rattle.aiger.specs.Numbers.{Admitted, needed}
 use Rattle.circuit_text.specs.declared.line.LineKind.{LineKind}
 use Rattle.circuit_text.specs.declared.line.LineKind.TheVariants.{Input, Latch, Output, Gate}
 use Rattle.circuit_text.specs.Lines.{line_at}
@@ -74,10 +74,16 @@ module _ (h : Header) (text : List ℕ) (start : ℕ) (a0 a1 a2 a3 : List ℕ) (
       → Uses h Input at_start (Ok p1) → Uses h Latch p1 (Ok p2) → Uses h Output p2 (Ok p3)
       → (a4 : List ℕ) (r : Result Place TextRefusal) → Reads h Gate text a3 a4 p3 r → Uses h Gate p3 r
       → MatchResult r (λ p. Stores (sections_read h text start) a0 a4 p.offset p.used) (λ e. sections_read h text start ≡ Err e)
+      × IfOk r (λ p. p.used ≡ needed h)
   four_read i l o ui ul uo a4 (Ok p) g ug =
       let on = sections_on h text start (take p1.used a1, p1.offset) (take p2.used a2, p2.offset) (take p3.used a3, p3.offset) i.stored l.stored o.stored in
       let rest3 = g.rest ∙ drop_further a3 a2 p3.used p.used (omega arith) o.rest in
-      let rest2 = rest3 ∙ drop_further a2 a1 p2.used p.used (omega arith) l.rest in
-      record { stored = on ∙ g.stored; rest = rest2 ∙ drop_further a1 a0 p1.used p.used (omega arith) i.rest }
+      let rest2 = rest3 ∙ drop_further a2 a1 p2.used p.used (omega arith) l.rest in (
+        record {
+          stored = on ∙ g.stored;
+          rest = rest2 ∙ drop_further a1 a0 p1.used p.used (omega arith) i.rest;
+        },
+        omega arith,
+      )
   four_read i l o ui ul uo a4 (Err e) g ug =
-      sections_on h text start (take p1.used a1, p1.offset) (take p2.used a2, p2.offset) (take p3.used a3, p3.offset) i.stored l.stored o.stored ∙ g
+      (sections_on h text start (take p1.used a1, p1.offset) (take p2.used a2, p2.offset) (take p3.used a3, p3.offset) i.stored l.stored o.stored ∙ g, tt)

@@ -5,6 +5,8 @@ use Rattle.refusal.specs.declared.faults.TextFault.TheVariants.{Form, FirstNumbe
 use Rattle.aiger.specs.declared.header.Header.{Header}
 use Rattle.circuit_text.specs.declared.line.LineKind.{LineKind}
 use Rattle.circuit_text.specs.declared.line.LineKind.TheVariants.{Input, Latch, Output, Gate}
+use Rattle.circuit_text.specs.declared.line.Kept.{Kept}
+use Rattle.circuit_text.specs.declared.line.Kept.TheVariants.{Nothing, One, Two}
 use Rattle.circuit_text.specs.declared.line.Line.{Line}
 use Rattle.circuit_text.specs.declared.line.Line.TheVariants.{Input as InputLine, Latch as LatchLine, Output as OutputLine, Gate as GateLine}
 use Rattle.circuit_text.specs.Chains.{and_then, carried}
@@ -18,6 +20,12 @@ form_at Output text at = and_then (number_at text at) (λ n. and_then (end_of_li
 form_at Gate text at =
     and_then (number_at text at) (λ g. and_then (spaced_at text g.1) (λ a. and_then (spaced_at text a.1) (λ b.
     and_then (end_of_line text b.1) (λ end. Some (GateLine g.0 a.0 b.0, end)))))
+
+-- the numbers that the area keeps of a line, in order
+abbrev pub listed : Kept → List ℕ
+listed Nothing = []
+listed (One a) = a ∷ []
+listed (Two a b) = a ∷ b ∷ []
 
 -- the questions on line i of a kind, counted from 0: first number, then the literals; and the numbers that the area keeps of it
 abbrev pub questioned : Header → ℕ → Line → Result (List ℕ) TextFault

@@ -16,7 +16,7 @@ mod section;
 #[cfg(test)]
 mod tests;
 
-pub(crate) use line::LineKind;
+pub(crate) use line::{Kept, LineKind};
 
 // Reads the circuit into a cleared area; after a refusal the area may hold a part of it.
 fn fill(text: &[u8], area: &mut [u32]) -> Result<Header, TextRefusal>

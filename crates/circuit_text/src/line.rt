@@ -1,11 +1,10 @@
 // One line of a circuit's text, and the questions put to it.
-ghost use Rattle.std.specs.Prelude.{◌≡◌, ◌+◌, ◌^◌, ◌<◌, ◌≤◌, [], ◌∷◌, if◌then◌else◌, Ok, Err};
+ghost use Rattle.std.specs.Prelude.{◌≡◌, ◌+◌, ◌^◌, ◌<◌, ◌≤◌, if◌then◌else◌, Ok, Err};
 ghost use Rattle.std.specs.Result.{result_map_both};
-ghost use Rattle.circuit_text.specs.Lines.{form_at, questioned, line_at};
+ghost use Rattle.circuit_text.specs.Lines.{listed, form_at, questioned, line_at};
 
 use crate::fields;
 use aiger::Header;
-use arrayvec::ArrayVec;
 use refusal::TextFault;
 
 #[derive(Clone, Copy)]
@@ -25,16 +24,12 @@ pub(crate) enum Line {
     Gate(u32, u32, u32),
 }
 
-// The numbers that the area keeps of a line: at most two.
-pub(crate) type Kept = ArrayVec<u32, 2>;
-
-// One number to keep.
-fn one(literal: u32) -> Kept
-    ensures { result.items ≡ literal ∷ [] }
-{
-    let mut kept = Kept::new();
-    kept.push(literal);
-    kept
+// The numbers that the area keeps of a line.
+#[derive(Clone, Copy)]
+pub(crate) enum Kept {
+    Nothing,
+    One(u32),
+    Two(u32, u32),
 }
 
 // The numbers of a line of a kind, and where the next line begins.
@@ -68,30 +63,30 @@ impl Line {
     // The questions on the numbers of line `index`, counted from 0 among those of its kind.
     fn question(self, header: &Header, index: u32) -> Result<Kept, TextFault>
         requires { (header.now.maximum ≤ 16383) × (header.now.inputs + header.now.latches + index < 2 ^ 20) }
-        ensures { result_map_both (λ kept. kept.items) (λ fault. fault) result ≡ questioned header.now index self }
+        ensures { result_map_both listed (λ fault. fault) result ≡ questioned header.now index self }
     {
         let greatest = 2 * header.maximum + 1;
         match self {
             Line::Input(literal) => {
                 ask(literal == 2 * (1 + index), TextFault::FirstNumber)?;
-                Ok(Kept::new())
+                Ok(Kept::Nothing)
             }
             Line::Latch(literal, next) => {
                 let own = 2 * (1 + header.inputs + index);
                 ask(literal == own, TextFault::FirstNumber)?;
                 ask(next <= greatest, TextFault::Literal)?;
-                Ok(one(next))
+                Ok(Kept::One(next))
             }
             Line::Output(literal) => {
                 ask(literal <= greatest, TextFault::Literal)?;
-                Ok(one(literal))
+                Ok(Kept::One(literal))
             }
             Line::Gate(gate, a, b) => {
                 let own = 2 * (1 + header.inputs + header.latches + index);
                 ask(gate == own, TextFault::FirstNumber)?;
                 ask(a < gate, TextFault::Literal)?;
                 ask(b <= a, TextFault::Literal)?;
-                Ok(Kept::from([a, b]))
+                Ok(Kept::Two(a, b))
             }
         }
     }
@@ -107,7 +102,7 @@ pub(crate) fn read_line(
     index: u32,
 ) -> Result<(Kept, usize), TextFault>
     requires { (header.now.maximum ≤ 16383) × (header.now.inputs + header.now.latches + index < 2 ^ 20) }
-    ensures { result_map_both (λ p. (p.0.items, p.1)) (λ fault. fault) result ≡ line_at header.now kind index text.now at }
+    ensures { result_map_both (λ p. (listed p.0, p.1)) (λ fault. fault) result ≡ line_at header.now kind index text.now at }
 {
     let (line, next) = in_form(text, at, kind).ok_or(TextFault::Form)?;
     Ok((line.question(header, index)?, next))

@@ -1,9 +1,10 @@
 // The sections of a circuit's text, each of lines of one kind, and where their numbers are stored.
 ghost use Rattle.std.specs.Prelude.{◌≡◌, ◌+◌, ◌*◌, ◌≤◌, ◌++◌, length, take, drop, Err, MatchResult};
 ghost use Rattle.aiger.specs.Numbers.{Admitted, needed};
+ghost use Rattle.circuit_text.specs.Lines.{listed};
 ghost use Rattle.circuit_text.specs.Sections.{lines_of, width, section_on, sections_read, Stores};
 
-use crate::{LineKind, line};
+use crate::{Kept, LineKind, line};
 use aiger::Header;
 use refusal::TextRefusal;
 
@@ -29,15 +30,24 @@ impl LineKind {
 }
 
 // Stores what is kept of a line, and answers how much of the area is used then.
-fn store(area: &mut [u32], used: usize, kept: &[u32]) -> usize
-    requires { used + length kept.now ≤ length area.old }
-    ensures used { result ≡ used + length kept.now }
-    ensures stored { take result area.new ≡ take used area.old ++ kept.now }
+fn store(area: &mut [u32], used: usize, kept: Kept) -> usize
+    requires { used + length (listed kept) ≤ length area.old }
+    ensures used { result ≡ used + length (listed kept) }
+    ensures stored { take result area.new ≡ take used area.old ++ listed kept }
     ensures rest { drop result area.new ≡ drop result area.old }
 {
-    let end = used + kept.len();
-    area[used..end].copy_from_slice(kept);
-    end
+    match kept {
+        Kept::Nothing => used,
+        Kept::One(literal) => {
+            area[used] = literal;
+            used + 1
+        }
+        Kept::Two(a, b) => {
+            area[used] = a;
+            area[used + 1] = b;
+            used + 2
+        }
+    }
 }
 
 // Reads the lines of a kind from a place on, and stores what is kept of them.
@@ -59,7 +69,7 @@ fn section(
     for index in 0..kind.lines(header) {
         let read = line::read_line(text, place.offset, header, kind, index);
         let (kept, next) = read.map_err(|fault| fault.at(place.offset))?;
-        let used = store(area, place.used, &kept);
+        let used = store(area, place.used, kept);
         place = Place { offset: next, used };
     }
     Ok(place)

@@ -5,7 +5,7 @@ use Rattle.stack.specs.declared.spans.Span.{Span}
 use Rattle.stack.specs.Runs.{run, runs}
 use Rattle.frames.specs.declared.frames.Mark.{Mark}
 use Rattle.frames.specs.declared.frames.Frames.{Frames}
-use Rattle.frames.specs.Held.{none, clauses_of, before_frame, frame, flat, span_at}
+use Rattle.frames.specs.Held.{none, marked, clauses_of, before_frame, frame, flat, span_at}
 
 -- a span that ends within the first n
 run_within : (ls : List ℕ) (n : ℕ) (p : Span) → p.start + p.length ≤ n → run (take n ls) p ≡ run ls p
@@ -39,7 +39,7 @@ cut_front a b cs ds h k =
     ∙ take-append-le (b.clauses - a.clauses) (drop a.clauses cs) ds (omega (arith, length-drop a.clauses cs))
 
 -- frames with the same marks
-module _ (f g : Frames) (e : g.marks.items ≡ f.marks.items) where
+module _ (f g : Frames) (e : marked g ≡ marked f) where
   pub same_before : (i : ℕ) → before_frame g i ≡ before_frame f i
   same_before zero = refl
   same_before (suc i) = ap (λ (ms : List Mark). get_or ms i none) e

@@ -1,7 +1,7 @@
 -- What is written leaves the areas stacked, and says what it means.
 use Rattle.std.proofs.Common.{◌≡◌, ℕ, zero, suc, ◌+◌, ◌-◌, ◌<◌, ◌≤◌, Result, Ok, Err, List, [], ◌∷◌, ◌++◌, length, get_or, take, drop, sym, refl, ap, ◌∙◌, subst, ap₂, ⊎_elim, add-one, arith}
 use Rattle.std.proofs.lemmas.List.{append-nil, length-take-le, length-drop, take_all, take-take, take-append-le, take-append-drop, drop_all, drop-append-le, get_or-take, get_or_push, get_or_append_left, map_push, length-append}
-use Rattle.std.specs.Result.{IsOk, IsErr}
+use Rattle.std.specs.Result.{IsErr}
 use Rattle.std.proofs.lemmas.Bool.{cases_eq, false≢true}
 use Rattle.refusal.specs.declared.faults.Full.{Full}
 use Rattle.stack.specs.declared.spans.Span.{Span}
@@ -10,14 +10,14 @@ use Rattle.stack.specs.Runs.{run, runs}
 use Rattle.stack.proofs.Places.{length_placed, take_placed, below_placed}
 use Rattle.frames.specs.declared.frames.Mark.{Mark}
 use Rattle.frames.specs.declared.frames.Frames.{Frames}
-use Rattle.frames.specs.Held.{none, ended_frames, clauses_of, before_frame, frame, open_frame, open_clause, flat, span_at, Stacked}
+use Rattle.frames.specs.Held.{none, marked, ended_frames, clauses_of, before_frame, frame, open_frame, open_clause, flat, span_at, Stacked}
 use Rattle.frames.specs.Writes.{WithLiteral, WithClause, WithFrame, open_span, SameFrames, OneLiteralMore, OneClauseMore, OneFrameMore, AddsLiteral, AddsClause, AddsFrame}
 use Rattle.frames.proofs.Growth.{runs_within, flat_more, cut, cut_front, same_before, same_cut}
 use Rattle.frames.proofs.Views.{mark_low, clauses_count, mark_within}
 
 -- Nothing is ended
 
-module _ (f g : Frames) (ls ms : List ℕ) (ps : List Span) (marks : g.marks.items ≡ f.marks.items) (spans : g.spans.used ≡ f.spans.used) (same : take g.ended ms ≡ take f.ended ls) where
+module _ (f g : Frames) (ls ms : List ℕ) (ps : List Span) (marks : marked g ≡ marked f) (spans : g.spans.used ≡ f.spans.used) (same : take g.ended ms ≡ take f.ended ls) where
   clauses_same : clauses_of g ms ps ≡ clauses_of f ls ps
   clauses_same = ap₂ (λ (xs : List ℕ) (n : ℕ). runs xs (take n ps)) same spans
 
@@ -47,7 +47,7 @@ module _ (f g : Frames) (ls ms : List ℕ) (ps : List Span) (marks : g.marks.ite
   }
 
 -- g is f, in all that is seen of it
-module _ (f g : Frames) (marks : g.marks.items ≡ f.marks.items) (ended : g.ended ≡ f.ended) (literals : g.literals.used ≡ f.literals.used) (spans : g.spans.used ≡ f.spans.used) (ls : List ℕ) (ps : List Span) where
+module _ (f g : Frames) (marks : marked g ≡ marked f) (ended : g.ended ≡ f.ended) (literals : g.literals.used ≡ f.literals.used) (spans : g.spans.used ≡ f.spans.used) (ls : List ℕ) (ps : List Span) where
   still_ended : take g.ended ls ≡ take f.ended ls
   still_ended = ap (λ n. take n ls) ended
 
@@ -72,17 +72,6 @@ module _ (f g : Frames) (marks : g.marks.items ≡ f.marks.items) (ended : g.end
     same = frames_same f g ls ls ps marks spans still_ended;
     clauses = clauses_same f g ls ls ps marks spans still_ended ∙ sym (append-nil (clauses_of f ls ps));
     opened = opened_same f g ls ls ps marks spans still_ended ∙ sym (append-nil (open_frame f ls ps));
-    clause = still_clause;
-  }
-
-  no_frame_more : (e : Full) → Stacked f ls ps → OneFrameMore f g (Err e) ls ps
-  no_frame_more e s = record {
-    stacked = still_stacked s;
-    count = omega (arith, ap length marks);
-    frames = λ i h. (frames_same f g ls ls ps marks spans still_ended).frames i;
-    last = λ is. absurd (false≢true is);
-    clauses = clauses_same f g ls ls ps marks spans still_ended;
-    opened = opened_same f g ls ls ps marks spans still_ended;
     clause = still_clause;
   }
 
@@ -116,7 +105,7 @@ module _ (f g : Frames) (l : ℕ) (ls ms : List ℕ) (w : WithLiteral f g) (e : 
 
 -- a literal that is pushed, if it is, stands in the open clause
 pub adds_literal : (f g : Frames) (l : ℕ) (ls ms : List ℕ) (r : Result (Unit {0}) Full) →
-    g.marks.items ≡ f.marks.items → g.ended ≡ f.ended → g.spans.used ≡ f.spans.used → PushedAs (l ∷ []) f.literals.used g.literals.used ls ms r → AddsLiteral f g l ls ms r
+    marked g ≡ marked f → g.ended ≡ f.ended → g.spans.used ≡ f.spans.used → PushedAs (l ∷ []) f.literals.used g.literals.used ls ms r → AddsLiteral f g l ls ms r
 adds_literal f g l ls ms (Ok _) marks ended spans p =
     literal_more f g l ls ms (record { marks = marks; count = ap length marks; ended = ended; literals = p.1; spans = spans }) p.2 (omega (arith, p.0))
 adds_literal f g l ls ms (Err e) marks ended spans p = λ ps s. subst (λ xs. OneLiteralMore f g l ls xs (Err e) ps) (sym p.2) (no_literal_more f g marks ended p.1 spans ls ps l e s)
@@ -249,7 +238,7 @@ adds_clause f g ps qs w p = clause-more f g ps qs w p.2 (omega (arith, p.0))
 
 -- where there is no room, none is
 pub adds_no_clause : (f g : Frames) (ps qs : List Span) (r t : Result (Unit {0}) Full) → IsErr r → IsErr t →
-    g.marks.items ≡ f.marks.items → g.ended ≡ f.ended → g.literals.used ≡ f.literals.used → PushedAs (open_span f ∷ []) f.spans.used g.spans.used ps qs r → AddsClause f g ps qs t
+    marked g ≡ marked f → g.ended ≡ f.ended → g.literals.used ≡ f.literals.used → PushedAs (open_span f ∷ []) f.spans.used g.spans.used ps qs r → AddsClause f g ps qs t
 adds_no_clause f g ps qs (Err _) (Err e) _ _ marks ended literals p = λ ls s. subst (λ xs. OneClauseMore f g ps xs (Err e) ls) (sym p.2) (no_clause_more f g marks ended literals p.1 ls ps e s)
 adds_no_clause f g ps qs (Ok _) t is _ _ _ _ _ = absurd (false≢true is)
 adds_no_clause f g ps qs (Err _) (Ok _) _ is _ _ _ _ = absurd (false≢true is)
@@ -260,10 +249,10 @@ module _ (f g : Frames) (w : WithFrame f g) where
   -- the marks of the frames before are the same
   before_below : (i : ℕ) → i ≤ ended_frames f → before_frame g i ≡ before_frame f i
   before_below zero h = refl
-  before_below (suc i) h = ap (λ (ms : List Mark). get_or ms i none) w.marks ∙ get_or_append_left f.marks.items (record { clauses = f.spans.used; literals = f.ended } ∷ []) none i (omega arith)
+  before_below (suc i) h = ap (λ (ms : List Mark). get_or ms i none) w.marks ∙ get_or_append_left (marked f) (record { clauses = f.spans.used; literals = f.ended } ∷ []) none i (omega arith)
 
   before_last : before_frame g (suc (ended_frames f)) ≡ record { clauses = f.spans.used; literals = f.ended }
-  before_last = ap (λ (ms : List Mark). get_or ms (ended_frames f) none) w.marks ∙ get_or_push f.marks.items (record { clauses = f.spans.used; literals = f.ended }) none (ended_frames f) refl
+  before_last = ap (λ (ms : List Mark). get_or ms (ended_frames f) none) w.marks ∙ get_or_push (marked f) (record { clauses = f.spans.used; literals = f.ended }) none (ended_frames f) refl
 
   before_open : before_frame g (ended_frames g) ≡ record { clauses = f.spans.used; literals = f.ended }
   before_open = ap (before_frame g) (w.count ∙ add-one (ended_frames f)) ∙ before_last
@@ -337,10 +326,8 @@ module _ (f g : Frames) (w : WithFrame f g) where
           clause = ap₂ (λ (a b : ℕ). drop a (take b ls)) w.ended w.literals;
         }
 
--- a frame that is ended, if it is, is the last of the frames
-pub adds_frame : (f g : Frames) (r : Result (Unit {0}) Full) → g.ended ≡ f.ended → g.literals.used ≡ f.literals.used → g.spans.used ≡ f.spans.used →
-    (IsOk r → g.marks.items ≡ f.marks.items ++ record { clauses = f.spans.used; literals = f.ended } ∷ []) → (IsErr r → g.marks.items ≡ f.marks.items) → AddsFrame f g r
-adds_frame f g (Ok _) ended literals spans more same =
-    let e = more refl in
-    frame_more f g (record { marks = e; count = ap length e ∙ length-append f.marks.items (record { clauses = f.spans.used; literals = f.ended } ∷ []); ended = ended; literals = literals; spans = spans })
-adds_frame f g (Err e) ended literals spans more same = λ ls ps. no_frame_more f g (same refl) ended literals spans ls ps e
+-- a frame that is ended is the last of the frames
+pub adds_frame : (f g : Frames) → g.ended ≡ f.ended → g.literals.used ≡ f.literals.used → g.spans.used ≡ f.spans.used →
+    marked g ≡ marked f ++ record { clauses = f.spans.used; literals = f.ended } ∷ [] → AddsFrame f g (Ok tt)
+adds_frame f g ended literals spans e =
+    frame_more f g (record { marks = e; count = ap length e ∙ length-append (marked f) (record { clauses = f.spans.used; literals = f.ended } ∷ []); ended = ended; literals = literals; spans = spans })

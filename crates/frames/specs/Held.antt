@@ -10,9 +10,13 @@ use Rattle.frames.specs.declared.frames.Frames.{Frames}
 abbrev pub none : Mark
 none = record { clauses = 0; literals = 0 }
 
+-- where each ended frame ends
+abbrev pub marked : Frames → List Mark
+marked f = take f.count f.marks
+
 -- how many frames are ended
 abbrev pub ended_frames : Frames → ℕ
-ended_frames f = length f.marks.items
+ended_frames f = length (marked f)
 
 -- the clauses that are ended, of all frames
 abbrev pub clauses_of : Frames → List ℕ → List Span → List (List ℕ)
@@ -21,7 +25,7 @@ clauses_of f ls ps = runs (take f.ended ls) (take f.spans.used ps)
 -- what stands before frame i
 abbrev pub before_frame : Frames → ℕ → Mark
 before_frame f zero = none
-before_frame f (suc i) = slice_index_or f.marks.items i none
+before_frame f (suc i) = slice_index_or (marked f) i none
 
 -- the clauses of frame i
 unfoldable pub frame : Frames → List ℕ → List Span → ℕ → List (List ℕ)

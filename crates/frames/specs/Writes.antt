@@ -5,7 +5,7 @@ use Rattle.refusal.specs.declared.faults.Full.{Full}
 use Rattle.stack.specs.declared.spans.Span.{Span}
 use Rattle.stack.specs.Pushes.{placed}
 use Rattle.frames.specs.declared.frames.Frames.{Frames}
-use Rattle.frames.specs.Held.{ended_frames, clauses_of, frame, open_frame, open_clause, Stacked}
+use Rattle.frames.specs.Held.{marked, ended_frames, clauses_of, frame, open_frame, open_clause, Stacked}
 
 -- no frame, no clause and no literal
 pub record Empty (f : Frames) : Type 0 where
@@ -21,7 +21,7 @@ pub record Empty (f : Frames) : Type 0 where
 
 -- g is f with one literal more
 pub record WithLiteral (f g : Frames) : Type 0 where
-  pub marks : g.marks.items ≡ f.marks.items
+  pub marks : marked g ≡ marked f
   pub count : ended_frames g ≡ ended_frames f
   pub ended : g.ended ≡ f.ended
   pub literals : g.literals.used ≡ f.literals.used + 1
@@ -29,7 +29,7 @@ pub record WithLiteral (f g : Frames) : Type 0 where
 
 -- g is f with its clause ended
 pub record WithClause (f g : Frames) : Type 0 where
-  pub marks : g.marks.items ≡ f.marks.items
+  pub marks : marked g ≡ marked f
   pub count : ended_frames g ≡ ended_frames f
   pub ended : g.ended ≡ f.literals.used
   pub literals : g.literals.used ≡ f.literals.used
@@ -37,7 +37,7 @@ pub record WithClause (f g : Frames) : Type 0 where
 
 -- g is f with its frame ended
 pub record WithFrame (f g : Frames) : Type 0 where
-  pub marks : g.marks.items ≡ f.marks.items ++ record { clauses = f.spans.used; literals = f.ended } ∷ []
+  pub marks : marked g ≡ marked f ++ record { clauses = f.spans.used; literals = f.ended } ∷ []
   pub count : ended_frames g ≡ ended_frames f + 1
   pub ended : g.ended ≡ f.ended
   pub literals : g.literals.used ≡ f.literals.used

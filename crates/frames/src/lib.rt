@@ -5,7 +5,6 @@ ghost use Rattle.std.specs.Prelude.{◌≡◌};
 ghost use Rattle.frames.specs.Held.{ended_frames, before_frame, open_clause};
 ghost use Rattle.frames.specs.Writes.{Empty};
 
-use arrayvec::ArrayVec;
 use stack::Stack;
 
 mod frames;
@@ -19,7 +18,8 @@ impl Frames {
         ensures { Empty result }
     {
         Frames {
-            marks: ArrayVec::new(),
+            marks: [Mark::default(); 65],
+            count: 0,
             ended: 0,
             literals: Stack::default(),
             spans: Stack::default(),
@@ -39,7 +39,7 @@ impl Frames {
     pub fn count(&self) -> usize
         ensures { result ≡ ended_frames self.now }
     {
-        self.marks.len()
+        self.count
     }
 
     // How many clauses and literals stand before a frame.
@@ -48,7 +48,7 @@ impl Frames {
     {
         frame
             .checked_sub(1)
-            .and_then(|last| self.marks.get(last))
+            .and_then(|last| self.marks[..self.count].get(last))
             .copied()
             .unwrap_or_default()
     }

@@ -45,10 +45,14 @@ impl Frames {
         ensures ended { FrameEnded self.old self.new result }
         ensures adds { AddsFrame self.old self.new result }
     {
-        let mark = Mark {
+        if self.count >= 65 {
+            return Err(Full);
+        }
+        self.marks[self.count] = Mark {
             clauses: self.spans.used,
             literals: self.ended,
         };
-        self.marks.try_push(mark).map_err(|_| Full)
+        self.count += 1;
+        Ok(())
     }
 }

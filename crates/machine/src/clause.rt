@@ -1,7 +1,9 @@
-use arrayvec::ArrayVec;
+ghost use Rattle.std.specs.Prelude.{◌≤◌};
 
-// A clause by value, of at most 16 literals.
-#[derive(Clone, Drop)]
+// A clause by value, of at most 16 literals: the first `length` of its places.
+#[derive(Clone, Copy)]
 pub struct Clause {
-    pub(crate) literals: ArrayVec<u32, 16>,
+    pub(crate) literals: [u32; 16],
+    pub(crate) length: usize,
+    ghost short: { length ≤ 16 },
 }

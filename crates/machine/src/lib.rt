@@ -1,14 +1,13 @@
 // Rule machines: the trait that each implements, its meaning and its law.
 #![tactic(auto)]
 
-ghost use Rattle.std.specs.Prelude.{◌≡◌, ℕ, ◌+◌, ◌<◌, ◌≤◌, Bool, true, false, List, [], ◌∷◌, ◌++◌, length, take, ◌↔◌, IsOk, MatchResult};
+ghost use Rattle.std.specs.Prelude.{◌≡◌, ℕ, ◌+◌, ◌<◌, ◌≤◌, Bool, true, false, List, [], ◌∷◌, ◌++◌, length, take, ◌↔◌, IsOk, MatchResult, slice_index};
 ghost use Rattle.std.specs.Option.{option_map};
 ghost use Rattle.machine.specs.Clauses.{listed};
 ghost use Rattle.machine.specs.Lists.{entry};
 ghost use Rattle.machine.specs.Meaning.{Meaning, Lawful};
 ghost use Rattle.machine.specs.Rows.{Fill, Ready};
 
-use arrayvec::ArrayVec;
 use refusal::{DocketFault, Full};
 
 mod clause;
@@ -20,7 +19,8 @@ impl Clause {
         ensures { listed result ≡ [] }
     {
         Clause {
-            literals: ArrayVec::new(),
+            literals: [0; 16],
+            length: 0,
         }
     }
 
@@ -31,25 +31,40 @@ impl Clause {
             (λ _. listed self.new ≡ listed self.old ++ literal ∷ [])
             (λ _. self.new ≡ self.old) }
     {
-        self.literals.try_push(literal).map_err(|_| Full)
+        if self.length >= 16 {
+            return Err(Full);
+        }
+        self.literals[self.length] = literal;
+        self.length += 1;
+        Ok(())
     }
 
     // The clause of these literals, of which at most 16 are taken.
     pub fn of(literals: &[u32]) -> Clause
         ensures { listed result ≡ take 16 literals.now }
     {
-        let mut clause = Clause::empty();
-        for literal in literals.iter().take(16) {
-            clause.literals.push(*literal);
+        let length = literals.len().min(16);
+        let mut places = [0; 16];
+        places[..length].copy_from_slice(&literals[..length]);
+        Clause {
+            literals: places,
+            length,
         }
-        clause
     }
 
     pub fn as_slice(&self) -> &[u32]
         ensures { result.now ≡ listed self.now }
     {
-        self.literals.as_slice()
+        &self.literals[0..self.length]
     }
+}
+
+// Whether each of these bytes is 0 or 1.
+fn are_bits(bytes: &[u8]) -> bool
+    ensures yes { result ≡ true → (k : ℕ) → k < length bytes.now → slice_index bytes.now k < 2 }
+    ensures no { result ≡ false → ((k : ℕ) → k < length bytes.now → slice_index bytes.now k < 2) → ⊥ }
+{
+    bytes.iter().all(|byte| *byte <= 1)
 }
 
 // Whether a row has a byte for each variable, and 0 or 1 for each input and state bit.
@@ -57,7 +72,8 @@ pub fn can_fill(row: &[u8], given: usize, variables: usize) -> bool
     ensures yes { result ≡ true → Ready given variables row.now }
     ensures no { result ≡ false → Ready given variables row.now → ⊥ }
 {
-    row.len() >= variables && row.iter().skip(1).take(given).all(|byte| *byte <= 1)
+    let end = row.len().min(given.saturating_add(1));
+    row.len() >= variables && are_bits(&row[end.min(1)..end])
 }
 
 pub trait Machine {

@@ -1,4 +1,5 @@
-use Rattle.std.proofs.Common.{ℕ, ◌+◌, ◌-◌, List, length, take, Ok, Err, sym, ap, ◌∙◌, arith, rules}
+use Rattle.std.proofs.Common.{ℕ, ◌+◌, ◌-◌, List, take, Ok, Err, sym, ap, ◌∙◌, arith, rules}
+use Rattle.circuit_text.specs.Lines.{listed}
 use Rattle.circuit_text.specs.Sections.{lines_of, lines_on}
 use Rattle.std.proofs.lemmas.Result.{err_from_is_err_and}
 use Rattle.refusal.proofs.Passed.{passed_ok, passed_err}
@@ -9,10 +10,10 @@ use Rattle.circuit_text.proofs.section.section.Goals as goal
 pub store-used-requires : goal.store-used-requires
 store-used-requires c =
     let was = passed_ok _ c.map_err.result c.read_line-read.result _ c.map_err.ensures.cases c.in_ok-kept.was in
-    let size = kept_width c.args.header.now c.args.kind c.loop-index.index c.args.text.now c.loop-index.place.offset c.in_ok-kept.kept.items c.in_ok-kept.next
+    let size = kept_width c.args.header.now c.args.kind c.loop-index.index c.args.text.now c.loop-index.place.offset (listed c.in_ok-kept.kept) c.in_ok-kept.next
     (sym (rw was at c.read_line-read.ensures)) in
     let more = width_more c.args.kind c.loop-index.index (lines_of c.args.header.now c.args.kind) (omega (arith, c.lines-index-end.ensures)) in
-    omega (arith, ap length c.deref.ensures.0, size, more.1, c.requires.room, c.loop-index.invariant.used)
+    omega (arith, size, more.1, c.requires.room, c.loop-index.invariant.used)
 
 pub returns-in_err-kept-clause-read : goal.returns-in_err-kept-clause-read
 returns-in_err-kept-clause-read c =
@@ -33,10 +34,10 @@ loop-index-preserved c =
     let i = c.loop-index.index in
     let used = c.loop-index.place.used in
     let left = lines_of h kind - (i + 1) in
-    let kept = c.deref.result.now in
+    let kept = listed c.in_ok-kept.kept in
     let next = c.in_ok-kept.next in
     let was = passed_ok _ c.map_err.result c.read_line-read.result _ c.map_err.ensures.cases c.in_ok-kept.was in
-    let read = sym (rw was at c.read_line-read.ensures) ∙ ap (λ (l : List ℕ). Ok (l, next)) (sym c.deref.ensures.0) in
+    let read = sym (rw was at c.read_line-read.ensures) in
     let size = kept_width h kind i text c.loop-index.place.offset kept next read in
     let more = width_more kind i (lines_of h kind) (omega (arith, c.lines-index-end.ensures)) in
     let step = lines_step h kind text (lines_of h kind - i) left i (take used c.loop-index.area, c.loop-index.place.offset) (Ok (kept, next))

@@ -115,10 +115,12 @@ impl<'a> Machine for Circuit<'a> {
             return Err(DocketFault::UnfitArea);
         }
         row[0] = 0;
+        let area = self.area;
+        let first = self.header.heads();
         // A gate reads what the gates before it wrote, so the row is filled place by place.
         for gate in 0..self.header.gates as usize {
-            let (a, b) = operands(self.header, self.area, gate);
-            row[1 + given + gate] = value(row, a) & value(row, b);
+            let at = first + 2 * gate;
+            row[1 + given + gate] = value(row, area[at]) & value(row, area[at + 1]);
         }
         Ok(())
     }

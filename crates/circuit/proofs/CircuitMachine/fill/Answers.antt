@@ -1,4 +1,4 @@
-use Rattle.std.proofs.Common.{◌+◌, ◌<◌, ◌≤◌, length, ◌∙◌, arith}
+use Rattle.std.proofs.Common.{ℕ, ◌+◌, ◌*◌, ◌<◌, ◌≤◌, length, get_or, ap, ◌∙◌, arith}
 use Rattle.std.proofs.lemmas.List.{length-set}
 use Rattle.circuit.proofs.Filling.{no_gates, gates_more, filled}
 use Rattle.circuit.proofs.CircuitMachine.fill.Goals as goal
@@ -17,8 +17,12 @@ loop-gate-preserved c =
     let n = 1 + c.given-given.result + j in
     let can = c.can_fill.ensures.yes c.if-not-can_fill.false in
     let room : n < length row = omega (arith, length-set c.args.row.now 0 0, can.0, self.good.0.0, c.given-given.ensures, c.variables.ensures) in
-    gates_more self.header self.area.now _ row j n _ _ _ _ self.good self.whole c.loop-gate.invariant c.loop-gate-test.true
-    (omega (arith, c.given-given.ensures)) c.operands-a.ensures.greater c.operands-a.ensures.less room c.value.ensures c.value-in-loop-gate.ensures
+    let area = self.area.now in
+    let at = c.heads-first.result + 2 * j in
+    let heads = c.heads-first.ensures in
+    gates_more self.header area _ row j n (get_or area at 0) (get_or area (at + 1) 0) _ _ self.good self.whole c.loop-gate.invariant c.loop-gate-test.true
+    (omega (arith, c.given-given.ensures)) (ap (λ (k : ℕ). get_or area k 0) (omega (arith, heads))) (ap (λ (k : ℕ). get_or area k 0) (omega (arith, heads)))
+    room c.value.ensures c.value-in-loop-gate.ensures
 
 pub returns : goal.returns
 returns c =

@@ -96,11 +96,12 @@ impl Merge {
             (None, None) => None,
             (Some(x), None) => Some(Next::new((x != self.pivot).then_some(x), i + 1, j)),
             (None, Some(y)) => Some(Next::new((y != self.against).then_some(y), i, j + 1)),
-            (Some(x), Some(y)) => {
-                let pace = self.advance(x, y);
-                let keep = (pace.kept == 1).then_some(x.min(y));
-                Some(Next::new(keep, i + pace.left, j + pace.right))
-            }
+            // Branches here: this step only counts, or goes through what the loop of `write` left over.
+            (Some(x), Some(_)) if x == self.pivot => Some(Next::new(None, i + 1, j)),
+            (Some(_), Some(y)) if y == self.against => Some(Next::new(None, i, j + 1)),
+            (Some(x), Some(y)) if x < y => Some(Next::new(Some(x), i + 1, j)),
+            (Some(x), Some(y)) if y < x => Some(Next::new(Some(y), i, j + 1)),
+            (Some(x), Some(_)) => Some(Next::new(Some(x), i + 1, j + 1)),
         }
     }
 

@@ -83,15 +83,19 @@ impl<'m, 'f, M: Machine> TraceList<'m, 'f, M> {
     ) -> Result<(), Full>
         ensures { PushedAs (selecting (M.meaning self.now.machine.now).variables self.now.frames.now index) stack.old.used stack.new.used literals.old literals.new result }
     {
+        let variables = self.machine.variables();
         let first = self.frames.before(index).clauses;
-        let end = frame_end(self.frames, index);
-        let room = literals.len().checked_sub(stack.used).ok_or(Full)?;
-        if end.saturating_sub(first) > room {
+        let size = frame_end(self.frames, index).saturating_sub(first);
+        let start = stack.used;
+        let room = literals.len().checked_sub(start).ok_or(Full)?;
+        if size > room {
             return Err(Full);
         }
-        for clause in first..end {
-            stack.push(literals, self.selector(clause))?;
+        // One test for all of them, and the machine is asked once.
+        for k in 0..size {
+            literals[start + k] = (2 * (variables + (first + k))) as u32;
         }
+        stack.used = start + size;
         Ok(())
     }
 
